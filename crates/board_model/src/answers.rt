@@ -1,0 +1,18 @@
+// What a lock answers.
+use zone_model::Outcomes;
+
+/// The answer to a part.
+#[derive(Debug, Drop)]
+pub enum Answer {
+    /// An outcome for each operation.
+    Modify(Outcomes),
+}
+
+/// What an ask answers: it was taken at the first `len` events of the lock's history, and `event`
+/// says that the last of these is its own.
+#[derive(Debug, Drop)]
+pub struct Answered {
+    pub answer: Answer,
+    pub len: u64,
+    pub event: bool,
+}

@@ -1,0 +1,2 @@
+-- how a run ends, and its status
+pub mod Endings

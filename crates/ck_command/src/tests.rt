@@ -1,0 +1,128 @@
+use crate::run::run_command;
+use ck_base::{Bytes, Text};
+use ck_devices::{CountWords, FixedClock, MemShelf, MemSink, MemSource};
+use std::alloc::Global;
+use std::test::Fail;
+
+const TABLE: &[u8] = b"iCloud.test development api\nwa ann\n";
+
+const REQUEST: &[u8] =
+    b"POST /database/1/iCloud.test/development/private/records/modify?ckAPIToken=api&ckWebAuthToken=wa HTTP/1.1\r\nhost: h\r\ncontent-length: 88\r\n\r\n{\"operations\":[{\"operationType\":\"create\",\"record\":{\"recordName\":\"a\",\"recordType\":\"T\"}}]}";
+
+/// A run in memory: its status, what it wrote, and its line on standard error.
+#[derive(Drop)]
+struct Ran {
+    status: u8,
+    written: Vec<u8>,
+    line: Vec<u8>,
+}
+
+/// The calls of the shelf, the source and the sink that fail, from 1.
+#[derive(Clone, Copy)]
+struct Fails {
+    shelf: u64,
+    source: u64,
+    sink: u64,
+}
+
+const NONE: Fails = Fails {
+    shelf: 0,
+    source: 0,
+    sink: 0,
+};
+
+fn run_once(alloc: Global, args: &[&str], input: &[u8], fails: Fails) -> Result<Ran, Fail> {
+    let mut words = Vec::new(alloc);
+    for arg in args {
+        words.push(Text::from_str(alloc, arg)?)?;
+    }
+    let mut files = Vec::new(alloc);
+    files.push((
+        Text::from_str(alloc, "users")?,
+        Bytes::from_slice(alloc, TABLE)?,
+    ))?;
+    files.push((
+        Text::from_str(alloc, "bad")?,
+        Bytes::from_slice(alloc, b"x\n")?,
+    ))?;
+    let mut shelf = MemShelf::new(files, Vec::from_slice(alloc, &[fails.shelf])?);
+    let mut source = MemSource::new(
+        input.to_vec(alloc)?,
+        4096,
+        Vec::from_slice(alloc, &[fails.source])?,
+    );
+    let mut sink = MemSink::new(alloc, 4096, Vec::from_slice(alloc, &[fails.sink])?);
+    let mut errors = MemSink::new(alloc, 7, Vec::new(alloc));
+    let status = run_command(
+        alloc,
+        &words,
+        &mut shelf,
+        &mut source,
+        &mut sink,
+        &mut errors,
+        &mut FixedClock(1000),
+        &mut CountWords::new(1, Vec::new(alloc)),
+    );
+    Ok(Ran {
+        status,
+        written: sink.bytes().to_vec(alloc)?,
+        line: errors.bytes().to_vec(alloc)?,
+    })
+}
+
+#[test]
+fn each_status_has_its_line(rt: HostRuntime) -> Result<(), Fail> {
+    let fails = [
+        Fails { shelf: 1, ..NONE },
+        Fails { source: 1, ..NONE },
+        Fails { sink: 1, ..NONE },
+    ];
+    for (args, input, fails, status, line) in [
+        ([].as_slice(), REQUEST, NONE, 2, "wrong words\n"),
+        (["--help"].as_slice(), REQUEST, NONE, 2, "wrong words\n"),
+        (
+            ["users", "--moment", "x"].as_slice(),
+            REQUEST,
+            NONE,
+            2,
+            "wrong words\n",
+        ),
+        (["none"].as_slice(), REQUEST, NONE, 3, "bad file none\n"),
+        (["bad"].as_slice(), REQUEST, NONE, 3, "bad file bad\n"),
+        (
+            ["users"].as_slice(),
+            b"x".as_slice(),
+            NONE,
+            4,
+            "ended: Cut\n",
+        ),
+        (
+            ["users"].as_slice(),
+            b"x\r\n\r\n".as_slice(),
+            NONE,
+            4,
+            "ended: NotBuilt\n",
+        ),
+        (["users"].as_slice(), REQUEST, fails[0], 1, "device fault\n"),
+        (["users"].as_slice(), REQUEST, fails[1], 1, "device fault\n"),
+        (["users"].as_slice(), REQUEST, fails[2], 1, "device fault\n"),
+        (["users"].as_slice(), b"".as_slice(), NONE, 0, ""),
+    ] {
+        let ran = run_once(rt.alloc(), args, input, fails)?;
+        assert_eq!(rt; ran.status, status, "{line}");
+        assert_eq!(rt; ran.line.as_slice(), line.as_bytes());
+        assert!(rt; ran.written.is_empty());
+    }
+    Ok(())
+}
+
+#[test]
+fn the_moment_stands_for_the_clock(rt: HostRuntime) -> Result<(), Fail> {
+    let alloc = rt.alloc();
+    let clock = run_once(alloc, &["users"], REQUEST, NONE)?;
+    let moment = run_once(alloc, &["users", "--moment", "+01000"], REQUEST, NONE)?;
+    assert_eq!(rt; (clock.status, moment.status), (0, 0));
+    assert!(rt; clock.written.starts_with(b"HTTP/1.1 200 OK\r\n"));
+    assert_eq!(rt; clock.written, moment.written);
+    Ok(())
+}

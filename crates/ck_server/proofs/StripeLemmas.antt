@@ -1,0 +1,83 @@
+-- One history of a list of histories after a write.
+use Rattle.std.proofs.Common.{◌≡◌, ◌≢◌, ℕ, zero, suc, ◌<◌, ◌++◌, List, [], ◌∷◌, length, set, get_or, true, refl, sym, ap, ◌∙◌, inl, arith, append-nil, Result, Ok, Err, IfOk, IfErr, OnErr, Option, Some, None, unwrap_or}
+use Rattle.std.specs.Prelude.{Vec, ⊤}
+use Rattle.std.specs.declared.alloc.Global.{Global}
+use Rattle.zone_model.specs.declared.events.Event.{Event}
+use Rattle.zone_model.specs.Lawful.{is_legal}
+use Rattle.board_model.specs.declared.parts.Part.{Part}
+use Rattle.board_model.specs.declared.answers.Answered.{Answered}
+use Rattle.board_model.specs.Parts.{MayBeAsked}
+use Rattle.board_model.specs.Asks.{sight, answer, made, makes, commits_by}
+use Rattle.board_model.specs.Turns.{HadTurn, IsAsked, MayHaveAsked}
+use Rattle.ck_server.specs.declared.board.AskFault.{AskFault}
+use Rattle.ck_server.specs.Stripes.{events_at}
+
+pub events_at-set_same : (vs : List (Vec Event Global)) (i : ℕ) (v : Vec Event Global) → i < length vs → events_at (set vs i v) i ≡ v.items
+events_at-set_same [] i v lt = absurd (omega arith)
+events_at-set_same (x ∷ xs) zero v lt = refl
+events_at-set_same (x ∷ xs) (suc i) v lt = events_at-set_same xs i v (omega arith)
+
+pub events_at-set_other : (vs : List (Vec Event Global)) (i k : ℕ) (v : Vec Event Global) → k ≢ i → events_at (set vs i v) k ≡ events_at vs k
+events_at-set_other [] i k v ne = refl
+events_at-set_other (x ∷ xs) zero zero v ne = absurd (ne refl)
+events_at-set_other (x ∷ xs) zero (suc k) v ne = refl
+events_at-set_other (x ∷ xs) (suc i) zero v ne = refl
+events_at-set_other (x ∷ xs) (suc i) (suc k) v ne = events_at-set_other xs i k v (λ e. ne (ap suc e))
+
+pub events_at-get_or : (vs : List (Vec Event Global)) (i : ℕ) (d : Vec Event Global) → i < length vs → events_at vs i ≡ (get_or vs i d).items
+events_at-get_or [] i d lt = absurd (omega arith)
+events_at-get_or (x ∷ xs) zero d lt = refl
+events_at-get_or (x ∷ xs) (suc i) d lt = events_at-get_or xs i d (omega arith)
+
+some_zero : (n : ℕ) → Some zero ≡ Some n → n ≡ zero
+some_zero n e = sym (ap (λ (o : Option ℕ). unwrap_or o 0) e)
+
+not_none : Some zero ≡ None → ⊥
+not_none e = cc
+
+-- a turn of a board that is alone, and whose seat is 0
+abbrev lone_turn : (vs : List (Vec Event Global)) (lock : ℕ) (d new : Vec Event Global) (more : List Event) → lock < length vs → new.items ≡ (get_or vs lock d).items ++ more → is_legal lock new.items ≡ true
+    → HadTurn ⊤ (λ _. Some 0) (λ _. Some 0) (events_at vs) (events_at (set vs lock new)) lock
+lone_turn vs lock d new more lt made_is legal = record {
+  seat = 0;
+  base = (get_or vs lock d).items;
+  later = [];
+  added = more;
+  found = sym (events_at-get_or vs lock d lt) ∙ sym (append-nil (events_at vs lock));
+  whole = λ _. refl;
+  strange = refl;
+  sits = refl;
+  stays = some_zero;
+  fresh = λ e. absurd (not_none e);
+  new_is = events_at-set_same vs lock new lt ∙ made_is;
+  legal = ap (is_legal lock) (events_at-set_same vs lock new lt) ∙ legal;
+  others = λ k ne. events_at-set_other vs lock k new ne;
+  other_seats = λ k ne. refl;
+}
+
+-- the history of the lock is legal after a step that keeps it so
+pub stays_legal : (vs : List (Vec Event Global)) (lock : ℕ) (part : Part) (d new : Vec Event Global) → lock < length vs → is_legal lock (events_at vs lock) ≡ true → MayBeAsked lock part
+    → ((k : ℕ) → MayBeAsked k part → is_legal k (get_or vs lock d).items ≡ true → is_legal k new.items ≡ true) → is_legal lock new.items ≡ true
+stays_legal vs lock part d new lt legal may stays = stays lock may (sym (ap (is_legal lock) (events_at-get_or vs lock d lt)) ∙ legal)
+
+-- what an ask of one history says of all of them
+pub asked : (vs : List (Vec Event Global)) (lock : ℕ) (part : Part) (d new : Vec Event Global) (r : Result Answered AskFault) → lock < length vs → is_legal lock new.items ≡ true
+    → IfOk r (λ _. new.items ≡ (get_or vs lock d).items ++ made 0 (get_or vs lock d).items part) → IfOk r (λ a. a.len ≡ length new.items)
+    → IfOk r (λ a. a.event ≡ makes (commits_by (get_or vs lock d).items part)) → IfOk r (λ a. a.answer ≡ answer (sight (get_or vs lock d).items part) part)
+    → IfOk r (IsAsked ⊤ (λ _. Some 0) (λ _. Some 0) (events_at vs) (events_at (set vs lock new)) lock part)
+asked vs lock part d new (Err e) lt legal made_is len_is event_is answer_is = tt
+asked vs lock part d new (Ok a) lt legal made_is len_is event_is answer_is = record {
+  turn = lone_turn vs lock d new (made 0 (get_or vs lock d).items part) lt made_is legal;
+  added_is = refl;
+  len = len_is ∙ ap length (sym (events_at-set_same vs lock new lt));
+  event = event_is;
+  answer_is = answer_is;
+}
+
+pub failed : (vs : List (Vec Event Global)) (lock : ℕ) (part : Part) (d new : Vec Event Global) (r : Result Answered AskFault) → lock < length vs → is_legal lock new.items ≡ true → OnErr r (new.items ≡ (get_or vs lock d).items)
+    → IfErr r (λ _. MayHaveAsked ⊤ (λ _. Some 0) (λ _. Some 0) (events_at vs) (events_at (set vs lock new)) lock part)
+failed vs lock part d new (Ok a) lt legal kept = tt
+failed vs lock part d new (Err e) lt legal kept = record {
+  turn = lone_turn vs lock d new [] lt (kept ∙ sym (append-nil (get_or vs lock d).items)) legal;
+  added_is = inl refl;
+}

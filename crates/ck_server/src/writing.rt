@@ -1,0 +1,19 @@
+//! Writing whole texts to a sink.
+ghost use Rattle.std.specs.Prelude.{◌≡◌, ◌≤◌, ℕ, length, take, OnOk, OnErr};
+ghost use Rattle.std.specs.Io.KnownBytes.{Appends};
+ghost use Rattle.ck_devices.specs.Causes.{HasCause};
+
+use ck_devices::{Failed, Sink};
+
+/// Writes all of the bytes. After a fault a front of them was written.
+pub fn write_whole<W: Sink>(sink: &mut W, bytes: &[u8]) -> Result<(), Failed>
+    ensures ok { OnOk result (Appends (W.held sink.old) (W.held sink.new) bytes.now) }
+    ensures err { OnErr result ((n : ℕ) × Appends (W.held sink.old) (W.held sink.new) (take n bytes.now)) }
+    ensures cause { HasCause (W.fault_count sink.old) (W.fault_count sink.new) result }
+{
+    let mut done = 0;
+    while done < bytes.len() {
+        done += sink.write(&bytes[done..])?;
+    }
+    Ok(())
+}
