@@ -1,4 +1,5 @@
--- What an ask is given to see, what it answers, and what it makes, at the history that it finds.
+-- What an ask is given to see, what it answers, and what it makes, at the history that it finds. They speak of parts that
+-- may be asked: an operation is judged by the view alone, also where the zone is not here.
 use Rattle.std.specs.Prelude.{ℕ, suc, Bool, true, false, List, [], ◌∷◌, ◌++◌, length}
 use Rattle.ck_base.specs.declared.key.ZoneKey.{ZoneKey}
 use Rattle.ck_base.specs.declared.scope.Scope.{Scope}

@@ -1,8 +1,6 @@
 -- Which parts a lock may be asked.
 use Rattle.std.specs.Prelude.{◌≡◌, ℕ, ◌≤◌, true, length}
 use Rattle.ck_base.specs.Names.{lock_of_names}
-use Rattle.ck_base.specs.declared.key.ZoneKey.{ZoneKey}
-use Rattle.ck_base.specs.declared.scope.Scope.{Scope}
 use Rattle.ck_base.specs.declared.scope.Scope.TheVariants.{Private}
 use Rattle.zone_model.specs.Zones.{is_default}
 use Rattle.board_model.specs.declared.parts.Part.{Part}

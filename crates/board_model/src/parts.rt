@@ -10,7 +10,8 @@ pub enum Part {
         user: UserName,
         scope: Scope,
         key: ZoneKey,
-        /// All of the operations are done or none. On a default zone it is without effect.
+        /// All of the operations are to be done or none. It is without effect on a default zone,
+        /// and no other zone is built.
         atomic: bool,
         ops: Ops,
         moment: u64,

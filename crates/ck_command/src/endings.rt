@@ -1,10 +1,13 @@
 //! How a run ends: the status of the program, and the line on standard error.
-ghost use Rattle.std.specs.Prelude.{◌≡◌, ◌≤◌};
+ghost use Rattle.std.specs.Prelude.{◌≡◌, ◌≤◌, OnOk, OnErr};
+ghost use Rattle.std.specs.Io.KnownBytes.{Appends};
+ghost use Rattle.ck_devices.specs.Causes.{HasCause};
 ghost use Rattle.ck_command.specs.Endings.{status_of};
+ghost use Rattle.ck_command.specs.Lines.{name_of, line, line_of, AppendsFront, Tells};
 
-use crate::words::tell;
-use ck_devices::Sink;
+use ck_devices::{Failed, Sink};
 use ck_server::End;
+use ck_server::writing::write_whole;
 
 /// How a run ends.
 #[derive(Clone, Copy, Debug)]
@@ -34,28 +37,44 @@ impl Ending<'_> {
         }
     }
 
-    /// Says on standard error why the status is not 0.
-    pub fn report<E: Sink>(&self, errors: &mut E) {
+    /// Says on standard error why the status is not 0, in a line of its own.
+    pub fn report<E: Sink>(&self, errors: &mut E)
+        ensures { Tells (E.held errors.old) (E.held errors.new)
+            (E.fault_count errors.old) (E.fault_count errors.new) (line_of self.now) }
+    {
         match self {
             Ending::Done => {}
-            Ending::DeviceFault => tell(errors, "device fault\n"),
-            Ending::WrongWords => tell(errors, "wrong words\n"),
-            Ending::BadFile(name) => {
-                tell(errors, "bad file ");
-                tell(errors, name);
-                tell(errors, "\n");
-            }
-            Ending::Early(end) => {
-                tell(errors, "ended: ");
-                tell(errors, name_of(*end));
-                tell(errors, "\n");
-            }
-            Ending::OutOfMemory => tell(errors, "out of memory\n"),
+            Ending::DeviceFault => tell(errors, "device fault", ""),
+            Ending::WrongWords => tell(errors, "wrong words", ""),
+            Ending::BadFile(name) => tell(errors, "bad file ", name),
+            Ending::Early(end) => tell(errors, "ended: ", name_of(*end)),
+            Ending::OutOfMemory => tell(errors, "out of memory", ""),
         }
     }
 }
 
-fn name_of(end: End) -> &'static str {
+// Writes a line. Where that fails nothing else is done.
+fn tell<E: Sink>(errors: &mut E, text: &str, about: &str)
+    ensures { Tells (E.held errors.old) (E.held errors.new)
+        (E.fault_count errors.old) (E.fault_count errors.new) (line text.now about.now) }
+{
+    let _ = write_line(errors, text, about);
+}
+
+// Writes a text, what it is about, and a line feed.
+fn write_line<E: Sink>(errors: &mut E, text: &str, about: &str) -> Result<(), Failed>
+    ensures ok { OnOk result (Appends (E.held errors.old) (E.held errors.new) (line text.now about.now)) }
+    ensures err { OnErr result (AppendsFront (E.held errors.old) (E.held errors.new) (line text.now about.now)) }
+    ensures cause { HasCause (E.fault_count errors.old) (E.fault_count errors.new) result }
+{
+    write_whole(errors, text.as_bytes())?;
+    write_whole(errors, about.as_bytes())?;
+    write_whole(errors, b"\n")
+}
+
+fn name_of(end: End) -> &'static str
+    ensures { result.now ≡ name_of end }
+{
     match end {
         End::Closed => "Closed",
         End::CloseAsked => "CloseAsked",

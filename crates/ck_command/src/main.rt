@@ -1,16 +1,20 @@
 //! `ckd`, the server, over the devices of the system.
 #![tactic(auto)]
 
+ghost use Rattle.std.specs.Prelude.{◌≡◌};
+ghost use Rattle.ck_command.specs.Endings.{status_of};
+ghost use Rattle.ck_command.specs.Lines.{line_of, Tells};
+
 mod endings;
 mod run;
 mod words;
 
 use ck_base::Text;
-use ck_devices::{FolderShelf, RandomDevice, ReaderSource, SystemClock, WriterSink};
+use ck_devices::{FolderShelf, RandomDevice, ReaderSource, Sink, SystemClock, WriterSink};
+use endings::Ending;
 use run::run_command;
 use std::process::ExitCode;
 use std::{env, io};
-use words::tell;
 
 // The words of the command line.
 fn command_line(rt: &HostRuntime) -> io::Result<Vec<Text>> {
@@ -21,13 +25,22 @@ fn command_line(rt: &HostRuntime) -> io::Result<Vec<Text>> {
     Ok(words)
 }
 
+// Tells an ending on standard error, and gives its status.
+fn end_with<E: Sink>(errors: &mut E, ending: Ending<'_>) -> u8
+    ensures status { result ≡ status_of ending.entry }
+    ensures told { Tells (E.held errors.old) (E.held errors.new)
+        (E.fault_count errors.old) (E.fault_count errors.new) (line_of ending.entry) }
+{
+    ending.report(errors);
+    ending.status()
+}
+
 // The status of `run` over the devices of the system.
 fn run_on_system(rt: HostRuntime, args: &[Text]) -> u8 {
     let alloc = rt.alloc();
     let mut errors = WriterSink::new(rt.stderr());
     let Ok(folder) = Text::from_str(alloc, "") else {
-        tell(&mut errors, "out of memory\n");
-        return 5;
+        return end_with(&mut errors, Ending::OutOfMemory);
     };
     run_command(
         alloc,
@@ -48,8 +61,8 @@ fn main(rt: HostRuntime) -> ExitCode {
     {
         return ExitCode::from(run_on_system(rt, args));
     }
-    tell(&mut WriterSink::new(rt.stderr()), "wrong words\n");
-    ExitCode::from(2)
+    let mut errors = WriterSink::new(rt.stderr());
+    ExitCode::from(end_with(&mut errors, Ending::WrongWords))
 }
 
 #[cfg(test)]

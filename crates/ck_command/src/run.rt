@@ -1,6 +1,12 @@
 //! One run of the server over the devices that it is handed.
-ghost use Rattle.std.specs.Prelude.{◌≡◌, ◌≤◌, ◌⊎◌, IfErr};
+ghost use Rattle.std.specs.Prelude.{◌≡◌, ◌≤◌, ◌⊎◌, ◌↔◌, None, OnOk, IfOk, IfErr};
 ghost use Rattle.ck_devices.specs.Causes.{Rose};
+ghost use Rattle.ck_devices.specs.Runs.{GivesInTurn};
+ghost use Rattle.ck_command.specs.Words.{asked_of};
+ghost use Rattle.ck_command.specs.UsersFile.{HoldsUsers};
+ghost use Rattle.ck_command.specs.Endings.{ending_of, MayRefuse, MayServe, MayEnd};
+ghost use Rattle.ck_command.specs.Serving.{Serves, IsTableIn, Converses};
+ghost use Rattle.ck_command.specs.Runs.{IsThreeAtNoTable, Ran};
 
 use crate::endings::Ending;
 use crate::words::read_words;
@@ -15,6 +21,9 @@ fn load_users<'a, F: Shelf>(
     shelf: &mut F,
     name: &'a str,
 ) -> Result<Users, Ending<'a>>
+    ensures users { OnOk result (HoldsUsers (F.files shelf.old) name.now) }
+    ensures table { IfOk result (λ users. IsTableIn (F.files shelf.old) name.now users) }
+    ensures refused { IfErr result (MayRefuse (F.files shelf.old) name.now) }
     ensures cause { IfErr result (λ ending. ending ≡ Ending.DeviceFault → Rose (F.fault_count shelf.old) (F.fault_count shelf.new)) }
 {
     let mut bytes = Vec::new(alloc);
@@ -31,8 +40,11 @@ fn load_users<'a, F: Shelf>(
 }
 
 // An end of a conversation that did not break off.
+#[tactic(auto, using(crate::proofs::EndingLemmas::early_end, crate::proofs::EndingLemmas::early_ending))]
 fn ending_at<'a>(end: End) -> Ending<'a>
-    ensures { result ≡ Ending.DeviceFault → ⊥ }
+    ensures exact { result ≡ ending_of end }
+    ensures served { MayServe result }
+    ensures cause { result ≡ Ending.DeviceFault → ⊥ }
 {
     match end {
         End::Closed => Ending::Done,
@@ -51,6 +63,9 @@ fn answer_all<'a, S: Source, W: Sink, C: Clock, R: Words>(
     clock: &mut C,
     words: &mut R,
 ) -> Ending<'a>
+    ensures served { MayServe result }
+    ensures serves { Serves users.now (λ moments. GivesInTurn C.gives clock.old moments clock.new)
+        (S.left source.old) (S.left source.new) (W.held sink.old) (W.held sink.new) result }
     ensures cause { result ≡ Ending.DeviceFault → Rose (S.fault_count source.old) (S.fault_count source.new) ⊎ Rose (W.fault_count sink.old) (W.fault_count sink.new) }
 {
     let mut board = Solo::new(alloc);
@@ -74,6 +89,9 @@ fn run<'a, F: Shelf, S: Source, W: Sink, C: Clock, R: Words>(
     clock: &mut C,
     words: &mut R,
 ) -> Ending<'a>
+    ensures may_end { MayEnd (F.files shelf.old) (asked_of args.now) result }
+    ensures converses { Converses C.gives clock.old clock.new (S.left source.old) (S.left source.new) (W.held sink.old) (W.held sink.new)
+        (F.files shelf.old) (asked_of args.now) result }
     ensures cause { result ≡ Ending.DeviceFault → Rose (F.fault_count shelf.old) (F.fault_count shelf.new)
         ⊎ (Rose (S.fault_count source.old) (S.fault_count source.new) ⊎ Rose (W.fault_count sink.old) (W.fault_count sink.new)) }
 {
@@ -95,7 +113,8 @@ fn run<'a, F: Shelf, S: Source, W: Sink, C: Clock, R: Words>(
 
 /// Answers the requests of the source to the sink, for the users of a file of the shelf, until the
 /// source ends. The words are those behind `run`: `USERS`, or `USERS --moment N`, where N stands
-/// for the clock. The answer is the status of the program.
+/// for the clock. The answer is the status of the program, and `errors` takes the line that says
+/// why it is not 0.
 pub fn run_command<F: Shelf, S: Source, W: Sink, E: Sink, C: Clock, R: Words>(
     alloc: Global,
     args: &[Text],
@@ -107,6 +126,12 @@ pub fn run_command<F: Shelf, S: Source, W: Sink, E: Sink, C: Clock, R: Words>(
     words: &mut R,
 ) -> u8
     ensures status { result ≤ 5 }
+    ensures words { (result ≡ 2) ↔ (asked_of args.now ≡ None) }
+    ensures table { IsThreeAtNoTable (F.files shelf.old) (asked_of args.now) result }
+    ensures ran { Ran (F.files shelf.old) args.now result (E.held errors.old) (E.held errors.new)
+        (E.fault_count errors.old) (E.fault_count errors.new)
+        (Converses C.gives clock.old clock.new (S.left source.old) (S.left source.new) (W.held sink.old) (W.held sink.new)
+        (F.files shelf.old) (asked_of args.now)) }
     ensures cause { result ≡ 1 → Rose (F.fault_count shelf.old) (F.fault_count shelf.new)
         ⊎ (Rose (S.fault_count source.old) (S.fault_count source.new) ⊎ Rose (W.fault_count sink.old) (W.fault_count sink.new)) }
 {

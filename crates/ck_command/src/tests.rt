@@ -17,18 +17,20 @@ struct Ran {
     line: Vec<u8>,
 }
 
-/// The calls of the shelf, the source and the sink that fail, from 1.
+/// The calls of the shelf, the source, the sink and standard error that fail, from 1.
 #[derive(Clone, Copy)]
 struct Fails {
     shelf: u64,
     source: u64,
     sink: u64,
+    errors: u64,
 }
 
 const NONE: Fails = Fails {
     shelf: 0,
     source: 0,
     sink: 0,
+    errors: 0,
 };
 
 fn run_once(alloc: Global, args: &[&str], input: &[u8], fails: Fails) -> Result<Ran, Fail> {
@@ -52,7 +54,7 @@ fn run_once(alloc: Global, args: &[&str], input: &[u8], fails: Fails) -> Result<
         Vec::from_slice(alloc, &[fails.source])?,
     );
     let mut sink = MemSink::new(alloc, 4096, Vec::from_slice(alloc, &[fails.sink])?);
-    let mut errors = MemSink::new(alloc, 7, Vec::new(alloc));
+    let mut errors = MemSink::new(alloc, 7, Vec::from_slice(alloc, &[fails.errors])?);
     let status = run_command(
         alloc,
         &words,
@@ -87,6 +89,13 @@ fn each_status_has_its_line(rt: HostRuntime) -> Result<(), Fail> {
             2,
             "wrong words\n",
         ),
+        (
+            ["users", "--moment", "18446744073709551616"].as_slice(),
+            REQUEST,
+            NONE,
+            2,
+            "wrong words\n",
+        ),
         (["none"].as_slice(), REQUEST, NONE, 3, "bad file none\n"),
         (["bad"].as_slice(), REQUEST, NONE, 3, "bad file bad\n"),
         (
@@ -112,6 +121,22 @@ fn each_status_has_its_line(rt: HostRuntime) -> Result<(), Fail> {
         assert_eq!(rt; ran.status, status, "{line}");
         assert_eq!(rt; ran.line.as_slice(), line.as_bytes());
         assert!(rt; ran.written.is_empty());
+    }
+    Ok(())
+}
+
+#[test]
+fn a_line_ends_where_standard_error_fails(rt: HostRuntime) -> Result<(), Fail> {
+    for (errors, line) in [
+        (1, ""),
+        (2, "bad fil"),
+        (3, "bad file "),
+        (4, "bad file none"),
+    ] {
+        let fails = Fails { errors, ..NONE };
+        let ran = run_once(rt.alloc(), &["none"], REQUEST, fails)?;
+        assert_eq!(rt; ran.status, 3);
+        assert_eq!(rt; ran.line.as_slice(), line.as_bytes());
     }
     Ok(())
 }

@@ -1,9 +1,10 @@
-//! The words of the command line, and what is said where they are wrong.
-ghost use Rattle.std.specs.Prelude.{◌≡◌};
+//! The words of the command line.
+ghost use Rattle.std.specs.Prelude.{◌≡◌, not};
+ghost use Rattle.std.specs.Option.{option_map};
+ghost use Rattle.std.specs.Str.Parse.{starts_with_minus};
+ghost use Rattle.ck_command.specs.Words.{number_of, asked_of};
 
 use ck_base::Text;
-use ck_devices::Sink;
-use ck_server::writing::write_whole;
 
 /// What the words of `run` ask for: the file of the users, and perhaps a moment in milliseconds
 /// that stands for the clock.
@@ -14,31 +15,42 @@ pub struct RunWords<'a> {
 }
 
 // A word that begins with a hyphen names no file.
-fn names_file(word: &str) -> bool {
+fn names_file(word: &str) -> bool
+    ensures { result ≡ not (starts_with_minus word.now) }
+{
     !word.starts_with('-')
 }
 
+// The number that a word is, as std's `parse` reads a u64.
+#[tactic(auto, using(crate::proofs::WordLemmas::parsed_number))]
+fn read_number(word: &str) -> Option<u64>
+    ensures { result ≡ number_of word.now }
+{
+    match word.parse::<u64>() {
+        Ok(number) => Some(number),
+        Err(_) => None,
+    }
+}
+
 /// Reads `USERS` or `USERS --moment N`, with N as std's `parse` reads a u64. Other words are `None`.
-pub fn read_words(args: &[Text]) -> Option<RunWords<'_>> {
+pub fn read_words(args: &[Text]) -> Option<RunWords<'_>>
+    ensures { option_map (λ asked. record { users = asked.users.now; moment = asked.moment }) result
+        ≡ asked_of args.now }
+{
     match args {
         [users] if names_file(users.as_str()) => Some(RunWords {
             users: users.as_str(),
             moment: None,
         }),
         [users, flag, number] if names_file(users.as_str()) && flag.as_str() == "--moment" => {
-            match number.as_str().parse::<u64>() {
-                Ok(moment) => Some(RunWords {
+            match read_number(number.as_str()) {
+                Some(moment) => Some(RunWords {
                     users: users.as_str(),
                     moment: Some(moment),
                 }),
-                Err(_) => None,
+                None => None,
             }
         }
         _ => None,
     }
-}
-
-/// Writes a line on standard error. Where that fails nothing else is done.
-pub fn tell<E: Sink>(errors: &mut E, line: &str) {
-    let _ = write_whole(errors, line.as_bytes());
 }

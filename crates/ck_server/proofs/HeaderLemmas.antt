@@ -1,9 +1,9 @@
 -- Header lines that lie in the bytes.
-use Rattle.std.proofs.Common.{ℕ, ◌≤◌, List, [], ◌∷◌, length, arith}
+use Rattle.std.proofs.Common.{ℕ, ◌≤◌, List, [], ◌∷◌, arith}
 use Rattle.std.specs.Prelude.{All}
 use Rattle.std.specs.List.{AllByRecursion}
 use Rattle.std.proofs.lemmas.List.Elements.{recursion_from_All}
-use Rattle.httparse.specs.Spans.{IsWithin, IsHeaderWithin}
+use Rattle.httparse.specs.Spans.{IsHeaderWithin}
 use Rattle.httparse.specs.declared.spans.HeaderSpan.{HeaderSpan}
 
 wider : (n m : ℕ) (hs : List HeaderSpan) → n ≤ m → AllByRecursion (IsHeaderWithin n) hs → AllByRecursion (IsHeaderWithin m) hs

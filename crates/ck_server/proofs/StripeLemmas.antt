@@ -81,3 +81,17 @@ failed vs lock part d new (Err e) lt legal kept = record {
   turn = lone_turn vs lock d new [] lt (kept ∙ sym (append-nil (get_or vs lock d).items)) legal;
   added_is = inl refl;
 }
+
+-- the same events in place of those of a lock
+same_events : (vs : List (Vec Event Global)) (lock : ℕ) (new : Vec Event Global) → lock < length vs → new.items ≡ events_at vs lock → (k : ℕ) → events_at (set vs lock new) k ≡ events_at vs k
+same_events [] lock new lt same k = absurd (omega arith)
+same_events (x ∷ xs) zero new lt same zero = same
+same_events (x ∷ xs) zero new lt same (suc k) = refl
+same_events (x ∷ xs) (suc i) new lt same zero = refl
+same_events (x ∷ xs) (suc i) new lt same (suc k) = same_events xs i new (omega arith) same k
+
+-- an ask that leaves the events of its lock leaves those of all
+pub unchanged : (vs : List (Vec Event Global)) (lock : ℕ) (d new : Vec Event Global) (r : Result Answered AskFault) → lock < length vs → OnErr r (new.items ≡ (get_or vs lock d).items)
+    → OnErr r ((k : ℕ) → events_at (set vs lock new) k ≡ events_at vs k)
+unchanged vs lock d new (Ok a) lt kept = tt
+unchanged vs lock d new (Err e) lt kept = same_events vs lock new lt (kept ∙ sym (events_at-get_or vs lock d lt))

@@ -1,7 +1,7 @@
 -- The table of users: what it holds, the text that it is written as, and what a text is read as.
 use Rattle.std.specs.Prelude.{◌≢◌, ℕ, ◌+◌, Bool, not, ◌&&◌, ◌||◌, nat_le, ◌==◌, if◌then◌else◌, List, [], ◌∷◌, ◌++◌, length, map, IsTrue, Option, None, Some, Result, Ok, Err, codes}
-use Rattle.std.specs.Option.{option_map, is_none}
-use Rattle.std.specs.List.{list_all, find, flat_map, join_with_byte, slice_split, AllPass, IsDistinct}
+use Rattle.std.specs.Option.{is_none}
+use Rattle.std.specs.List.{list_all, flat_map, join_with_byte, slice_split, AllPass, IsDistinct}
 use Rattle.std.specs.Str.{bytes_eq}
 pub use Rattle.talk_model.specs.Tables.{Table, user_of_token}
 use Rattle.ck_server.specs.declared.users.UsersFault.{UsersFault}

@@ -40,7 +40,7 @@ pub trait Board {
     /// What each lock's history was when the board saw it last.
     ghost history: { Self → Histories Event };
 
-    /// The number of the writer of its own events at each lock, from its first ask there on.
+    /// The number of the writer of its own events at each lock, from its first ask there on at latest.
     ghost seats: { Self → ℕ → Option ℕ };
 
     /// Nobody else adds to the histories.

@@ -1,8 +1,13 @@
 // The head of a request.
-ghost use Rattle.std.specs.Prelude.{◌≡◌, ◌≤◌, IsTrue, IfSome, length};
-ghost use Rattle.std.specs.List.{AllByRecursion};
-ghost use Rattle.httparse.specs.Spans.{IsHeaderWithin};
-ghost use Rattle.talk_model.specs.Heads.{starts_blank, head_end};
+ghost use Rattle.std.specs.Prelude.{◌≡◌, ◌≢◌, ◌≤◌, ◌∷◌, [], IsTrue, IfSome, IfNone, MatchOption, ℕ, List, length, map};
+ghost use Rattle.std.specs.Char.{is_ascii_digit, to_ascii_lowercase};
+ghost use Rattle.std.specs.List.{AllByRecursion, list_all};
+ghost use Rattle.std.specs.Option.{option_copied, option_map};
+ghost use Rattle.std.specs.Str.Parse.{digits_value};
+ghost use Rattle.httparse.specs.Spans.{IsHeaderWithin, header_bytes};
+ghost use Rattle.talk_model.specs.Heads.{starts_blank, head_end, behind, target_front, length_of, is_named, body_length};
+ghost use Rattle.talk_model.specs.Requests.{IsHead};
+ghost use Rattle.ck_server.specs.Heads.{all_bytes, line_pair, HasParts, HasNoParts, parts_meaning};
 
 use crate::Users;
 use ck_base::UserName;
@@ -62,6 +67,7 @@ struct HeaderLine<'a> {
 
 fn header_line<'a>(bytes: &'a [u8], header: HeaderSpan) -> HeaderLine<'a>
     requires { IsHeaderWithin (length bytes.now) header }
+    ensures { line_pair result ≡ header_bytes bytes.now header }
 {
     HeaderLine {
         name: header.name.of(bytes),
@@ -75,6 +81,10 @@ fn two_lines<'a>(
     headers: &[HeaderSpan],
 ) -> Option<(HeaderLine<'a>, HeaderLine<'a>)>
     requires { AllByRecursion (IsHeaderWithin (length bytes.now)) headers.now }
+    ensures { MatchOption result
+        (length headers.now ≢ 2)
+        (λ lines. map (header_bytes bytes.now) headers.now
+        ≡ line_pair lines.0 ∷ line_pair lines.1 ∷ []) }
 {
     match headers {
         [first, second] => Some((header_line(bytes, *first), header_line(bytes, *second))),
@@ -84,7 +94,9 @@ fn two_lines<'a>(
 
 // The parts of the head that the bytes are, where they are one of two header lines.
 #[tactic(auto, using(crate::proofs::HeaderLemmas::all_within))]
-fn parse_head(bytes: &[u8]) -> Option<HeadParts<'_>> {
+fn parse_head(bytes: &[u8]) -> Option<HeadParts<'_>>
+    ensures { MatchOption result (HasNoParts bytes.now) (λ parts. HasParts bytes.now parts) }
+{
     let mut headers = [EMPTY_HEADER_SPAN; HEADER_LINES];
     match parse_request(bytes, &mut headers) {
         Ok(Status::Complete(head)) => {
@@ -104,33 +116,40 @@ fn parse_head(bytes: &[u8]) -> Option<HeadParts<'_>> {
     }
 }
 
-fn is_line_named(line: HeaderLine, name: &[u8]) -> bool {
+fn is_line_named(line: HeaderLine, name: &[u8]) -> bool
+    requires lower_case { map to_ascii_lowercase name.now ≡ name.now }
+    ensures { result ≡ is_named name.now (line_pair line.entry) }
+{
     line.name.eq_ignore_ascii_case(name)
 }
 
-// What stands behind the prefix.
-fn strip<'a>(bytes: &'a [u8], prefix: &[u8]) -> Option<&'a [u8]> {
-    bytes.strip_prefix(prefix)
+fn are_digits(text: &[u8]) -> bool
+    ensures { result ≡ list_all is_ascii_digit text.now }
+{
+    text.iter().all(|byte| byte.is_ascii_digit())
+}
+
+// The number that these digits write.
+fn number_of(digits: &[u8]) -> usize
+    requires few { length digits.now ≤ 7 }
+    requires all { IsTrue (list_all is_ascii_digit digits.now) }
+    ensures { result ≡ digits_value 10 digits.now }
+{
+    let mut number = 0;
+    for digit in digits {
+        number = number * 10 + usize::from(*digit - b'0');
+    }
+    number
 }
 
 // The number that 1 to 7 digits write, of a length that a body may have.
 fn read_length(text: &[u8]) -> Option<usize>
-    ensures { IfSome result (λ n. n ≤ 4194304) }
+    ensures { result ≡ length_of text.now }
 {
-    if text.is_empty() || text.len() > LENGTH_DIGITS {
+    if text.is_empty() || text.len() > LENGTH_DIGITS || !are_digits(text) {
         return None;
     }
-    let mut length: usize = 0;
-    for byte in text {
-        match *byte {
-            b'0'..=b'9' => {
-                length = length
-                    .saturating_mul(10)
-                    .saturating_add(usize::from(*byte - b'0'));
-            },
-            _ => return None,
-        }
-    }
+    let length = number_of(text);
     if length <= BODY_BYTES {
         Some(length)
     } else {
@@ -140,7 +159,7 @@ fn read_length(text: &[u8]) -> Option<usize>
 
 // The length of the body that the two lines state: a host and a length, in either order.
 fn stated_length(first: HeaderLine, second: HeaderLine) -> Option<usize>
-    ensures { IfSome result (λ n. n ≤ 4194304) }
+    ensures { result ≡ body_length (line_pair first.entry ∷ line_pair second.entry ∷ []) }
 {
     if is_line_named(first, b"host") && is_line_named(second, b"content-length") {
         read_length(second.value)
@@ -151,22 +170,46 @@ fn stated_length(first: HeaderLine, second: HeaderLine) -> Option<usize>
     }
 }
 
-// What stands behind the front of the target, which is the web token.
-fn web_token<'a>(users: &Users, target: &'a [u8]) -> Option<&'a [u8]> {
-    let rest = strip(target, b"/database/1/")?;
-    let rest = strip(rest, users.container())?;
-    let rest = strip(rest, b"/")?;
-    let rest = strip(rest, users.environment())?;
-    let rest = strip(rest, b"/private/records/modify?ckAPIToken=")?;
-    let rest = strip(rest, users.api_token())?;
-    strip(rest, b"&ckWebAuthToken=")
+fn strip<'a>(bytes: &'a [u8], prefix: &[u8]) -> Option<&'a [u8]>
+    ensures { option_copied result ≡ behind prefix.now bytes.now }
+{
+    bytes.strip_prefix(prefix)
 }
 
-/// Who calls and how long the body is, where the bytes are a head of the form that is built.
-pub(crate) fn read_head<'u>(users: &'u Users, bytes: &[u8]) -> Option<(&'u UserName, usize)>
-    ensures bound { IfSome result (λ found. found.1 ≤ 4194304) }
+// What stands behind the pieces, which stand one behind another.
+fn strip_all<'a>(bytes: &'a [u8], pieces: &[&[u8]]) -> Option<&'a [u8]>
+    ensures { option_copied result ≡ behind (all_bytes pieces.now) bytes.now }
 {
-    let parts = parse_head(bytes)?;
+    let mut rest = bytes;
+    for piece in pieces {
+        rest = strip(rest, piece)?;
+    }
+    Some(rest)
+}
+
+// What stands behind the front of the target, which is the web token.
+fn web_token<'a>(users: &Users, target: &'a [u8]) -> Option<&'a [u8]>
+    ensures { option_copied result ≡ behind (target_front users.now) target.now }
+{
+    strip_all(
+        target,
+        &[
+            b"/database/1/".as_slice(),
+            users.container(),
+            b"/".as_slice(),
+            users.environment(),
+            b"/private/records/modify?ckAPIToken=".as_slice(),
+            users.api_token(),
+            b"&ckWebAuthToken=".as_slice(),
+        ],
+    )
+}
+
+// Who calls and how long the body is, by the parts of the head.
+fn read_parts<'u>(users: &'u Users, parts: HeadParts) -> Option<(&'u UserName, usize)>
+    ensures { option_map (λ found. (found.0.now, found.1)) result
+        ≡ parts_meaning users.now parts.entry }
+{
     if parts.method != b"POST".as_slice() || parts.minor != 1 {
         return None;
     }
@@ -174,4 +217,15 @@ pub(crate) fn read_head<'u>(users: &'u Users, bytes: &[u8]) -> Option<(&'u UserN
     let caller = users.user_of_token(token)?;
     let length = stated_length(parts.first, parts.second)?;
     Some((caller, length))
+}
+
+/// Who calls and how long the body is, or `None` where the bytes are no head of the form that is
+/// built.
+pub(crate) fn read_head<'u>(users: &'u Users, bytes: &[u8]) -> Option<(&'u UserName, usize)>
+    ensures bound { IfSome result (λ found. found.1 ≤ 4194304) }
+    ensures some { IfSome result (λ found. IsHead users.now bytes.now (found.0.now, found.1)) }
+    ensures none { IfNone result ((meaning : List ℕ × ℕ) → ¬ IsHead users.now bytes.now meaning) }
+{
+    let parts = parse_head(bytes)?;
+    read_parts(users, parts)
 }

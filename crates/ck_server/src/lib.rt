@@ -17,7 +17,7 @@ pub use board::{AskFault, Board};
 pub use board_model::{Answer, Answered, Part};
 pub use conversation::converse;
 pub use solo::Solo;
-pub use talk_model::{At, End, Mark, Talk, TalkFault, TalkFaultKind};
+pub use talk_model::{At, End, Mark, ServerError, Talk, TalkFault, TalkFaultKind};
 pub use users::{Users, UsersFault, read_users};
 pub use zone_model::{
     Act, Commit, Commits, Draft, Event, Field, Fields, Op, OpFault, OpKind, Ops, Origin, Outcome,

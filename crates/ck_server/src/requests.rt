@@ -1,14 +1,18 @@
 // Whole requests from a source.
-ghost use Rattle.std.specs.Prelude.{◌≡◌, ◌≤◌, ◌+◌, true, length, drop, vec_len, IfOk, IsErrOf};
+ghost use Rattle.std.specs.Prelude.{◌≡◌, ◌≤◌, ◌<◌, length, drop, vec_len, Some, None, IfOk, IfErr, IsErrOf};
 ghost use Rattle.ck_devices.specs.Causes.{Rose};
+ghost use Rattle.talk_model.specs.Heads.{head_end};
+ghost use Rattle.talk_model.specs.Requests.{default_key};
 ghost use Rattle.ck_server.specs.Filling.{Extends, Fills};
-ghost use Rattle.ck_server.specs.Ends.{IsWithinEnd, HasFewOps};
+ghost use Rattle.ck_server.specs.Ends.{IsHeadEnd, IsLongEnough, TakesOwnZone};
+ghost use Rattle.ck_server.specs.Taking.{Takes};
+ghost use Rattle.ck_server.specs.Outcomes.{IsUnfinished};
 
 use crate::body::read_body;
 use crate::head::{find_head_end, read_head};
 use crate::{End, TalkFaultKind, Users};
 use ck_base::limits::HEAD_BYTES;
-use ck_base::{NoMemory, UserName};
+use ck_base::{NoMemory, UserName, ZoneKey, zone_name};
 use ck_devices::Source;
 use std::alloc::Global;
 use zone_model::Ops;
@@ -20,6 +24,8 @@ const PIECE: usize = 4096;
 #[derive(Drop)]
 pub(crate) struct Request {
     pub caller: UserName,
+    /// The zone that is asked, which is the caller's default zone.
+    pub key: ZoneKey,
     pub ops: Ops,
 }
 
@@ -63,7 +69,10 @@ fn read_to_head_end<S: Source>(
     source: &mut S,
     buffer: &mut Vec<u8>,
 ) -> Result<HeadEnd, TalkFaultKind>
-    ensures within { IfOk result (λ end. IsWithinEnd (length buffer.new.items) end) }
+    ensures extends { Extends (S.left source.old) (S.left source.new) buffer.old.items buffer.new.items }
+    ensures found { IfOk result (λ end. IsHeadEnd (S.left source.new) buffer.new.items end) }
+    ensures none { IfErr result (λ _. head_end buffer.new.items ≡ None) }
+    ensures short { IfErr result (λ _. length buffer.new.items < 16384) }
     ensures later { S.fault_count source.old ≤ S.fault_count source.new }
     ensures cause { IsErrOf result TalkFaultKind.ReadFault → Rose (S.fault_count source.old) (S.fault_count source.new) }
     ensures read { IsErrOf result TalkFaultKind.WriteFault → ⊥ }
@@ -88,8 +97,9 @@ fn read_to_length<S: Source>(
     buffer: &mut Vec<u8>,
     wanted: usize,
 ) -> Result<bool, TalkFaultKind>
-    ensures whole { IfOk result (λ whole. whole ≡ true → wanted ≤ length buffer.new.items) }
-    ensures kept { length buffer.old.items ≤ length buffer.new.items }
+    ensures extends { Extends (S.left source.old) (S.left source.new) buffer.old.items buffer.new.items }
+    ensures whole { IfOk result (λ whole. IsLongEnough (S.left source.new) buffer.new.items wanted whole) }
+    ensures short { IfErr result (λ _. length buffer.new.items < wanted) }
     ensures later { S.fault_count source.old ≤ S.fault_count source.new }
     ensures cause { IsErrOf result TalkFaultKind.ReadFault → Rose (S.fault_count source.old) (S.fault_count source.new) }
     ensures read { IsErrOf result TalkFaultKind.WriteFault → ⊥ }
@@ -112,6 +122,17 @@ fn drop_front(buffer: &mut Vec<u8>, count: usize)
     buffer.truncate(rest);
 }
 
+// The key of the zone that a user has from the start.
+fn default_key(alloc: Global, user: &UserName) -> Result<ZoneKey, NoMemory>
+    ensures { IfOk result (λ key. key ≡ default_key user.now) }
+{
+    let owner = user.clone()?;
+    match zone_name(alloc, b"_defaultZone") {
+        Ok(zone) => Ok(ZoneKey { owner, zone }),
+        Err(_) => Err(NoMemory),
+    }
+}
+
 // Takes the request whose head ends at that place.
 fn take_behind_head<S: Source>(
     alloc: Global,
@@ -120,8 +141,12 @@ fn take_behind_head<S: Source>(
     buffer: &mut Vec<u8>,
     end: usize,
 ) -> Result<Taken, TalkFaultKind>
-    requires { end ≤ length buffer.old.items }
-    ensures few { IfOk result HasFewOps }
+    requires ends { head_end buffer.old.items ≡ Some end }
+    requires within { end ≤ length buffer.old.items }
+    requires short { end ≤ 16384 }
+    ensures takes { Takes users.now (S.left source.old) (S.left source.new) buffer.old.items buffer.new.items result }
+    ensures unfinished { IsErrOf result TalkFaultKind.ReadFault → IsUnfinished users.now buffer.new.items }
+    ensures own { IfOk result TakesOwnZone }
     ensures later { S.fault_count source.old ≤ S.fault_count source.new }
     ensures cause { IsErrOf result TalkFaultKind.ReadFault → Rose (S.fault_count source.old) (S.fault_count source.new) }
     ensures read { IsErrOf result TalkFaultKind.WriteFault → ⊥ }
@@ -132,11 +157,12 @@ fn take_behind_head<S: Source>(
     if !read_to_length(source, buffer, end + size)? {
         return Ok(Taken::AtEnd(End::Cut));
     }
-    match read_body(alloc, &buffer[end..end + size])? {
+    let caller = caller.clone()?;
+    let key = default_key(alloc, &caller)?;
+    match read_body(alloc, &key, &buffer[end..end + size])? {
         Some(ops) => {
-            let caller = caller.clone()?;
             drop_front(buffer, end + size);
-            Ok(Taken::Request(Request { caller, ops }))
+            Ok(Taken::Request(Request { caller, key, ops }))
         }
         None => Ok(Taken::AtEnd(End::NotBuilt)),
     }
@@ -149,7 +175,9 @@ pub(crate) fn take_request<S: Source>(
     source: &mut S,
     buffer: &mut Vec<u8>,
 ) -> Result<Taken, TalkFaultKind>
-    ensures few { IfOk result HasFewOps }
+    ensures takes { Takes users.now (S.left source.old) (S.left source.new) buffer.old.items buffer.new.items result }
+    ensures unfinished { IsErrOf result TalkFaultKind.ReadFault → IsUnfinished users.now buffer.new.items }
+    ensures own { IfOk result TakesOwnZone }
     ensures later { S.fault_count source.old ≤ S.fault_count source.new }
     ensures cause { IsErrOf result TalkFaultKind.ReadFault → Rose (S.fault_count source.old) (S.fault_count source.new) }
     ensures read { IsErrOf result TalkFaultKind.WriteFault → ⊥ }

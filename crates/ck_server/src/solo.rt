@@ -1,5 +1,7 @@
 // The board of one thread.
-ghost use Rattle.std.specs.Prelude.{⊤, ◌≡◌, ◌<◌, ℕ, true, Some, []};
+ghost use Rattle.std.specs.Prelude.{⊤, ◌≡◌, ◌<◌, ℕ, Some, true, [], IfOk, IfErr, OnErr};
+ghost use Rattle.board_model.specs.Parts.{MayBeAsked};
+ghost use Rattle.board_model.specs.Turns.{IsAsked, MayHaveAsked};
 ghost use Rattle.zone_model.specs.Lawful.{is_legal};
 ghost use Rattle.ck_server.specs.Stripes.{events_at};
 
@@ -18,9 +20,11 @@ pub struct Solo {
 }
 
 impl Solo {
+    ghost use Rattle.ck_server.specs.Solos.{history_of};
+
     /// A board without events.
     pub fn new(alloc: Global) -> Solo
-        ensures { (lock : ℕ) → events_at result.stripes lock ≡ [] }
+        ensures { (lock : ℕ) → history_of result lock ≡ [] }
     {
         Solo {
             alloc,
@@ -48,7 +52,8 @@ impl Solo {
     /// The events of a lock, in order.
     pub fn events(&self, lock: u8) -> &[Event]
         requires { lock < 16 }
-        ensures { result.now ≡ events_at self.now.stripes lock }
+        ensures events { result.now ≡ history_of self.now lock }
+        ensures legal { is_legal lock result.now ≡ true }
     {
         self.stripes[lock as usize].as_slice()
     }
@@ -61,7 +66,15 @@ impl Board for Solo {
 
     ghost alone = { λ _. ⊤ };
 
-    fn ask(&mut self, lock: u8, part: &Part) -> Result<Answered, AskFault> {
+    // Want of memory leaves the events.
+    fn ask(&mut self, lock: u8, part: &Part) -> Result<Answered, AskFault>
+        requires lock { lock < 16 }
+        requires part { MayBeAsked lock part.now }
+        ensures asked { IfOk result (IsAsked ⊤ (λ _. Some 0) (λ _. Some 0) (events_at self.old.stripes) (events_at self.new.stripes) lock part.now) }
+        ensures failed { IfErr result (λ _. MayHaveAsked ⊤ (λ _. Some 0) (λ _. Some 0) (events_at self.old.stripes) (events_at self.new.stripes) lock part.now) }
+        ensures alone { ⊤ → ⊤ }
+        ensures kept { OnErr result ((k : ℕ) → events_at self.new.stripes k ≡ events_at self.old.stripes k) }
+    {
         ask_stripe(self.alloc, &mut self.stripes[lock as usize], 0, part)
     }
 

@@ -155,6 +155,34 @@ fn other_forms_end_the_connection(rt: HostRuntime) -> Result<(), Fail> {
     Ok(())
 }
 
+const WITH_REFERENCES: &[u8] =
+    b"POST /database/1/iCloud.test/development/private/records/modify?ckAPIToken=api&ckWebAuthToken=wa HTTP/1.1\r\nhost: h\r\ncontent-length: 186\r\n\r\n{\"operations\":[{\"operationType\":\"create\",\"record\":{\"fields\":{\"l\":{\"value\":[{\"recordName\":\"b\"},{\"recordName\":\"c\"}]},\"r\":{\"value\":{\"recordName\":\"b\"}}},\"recordName\":\"a\",\"recordType\":\"T\"}}]}";
+
+const WHICH_COME_BACK: &[u8] =
+    b"HTTP/1.1 200 OK\r\ncontent-type: application/json\r\ncontent-length: 365\r\n\r\n{\"records\":[{\"created\":{\"timestamp\":1000,\"userRecordName\":\"ann\"},\"fields\":{\"l\":{\"type\":\"REFERENCE_LIST\",\"value\":[{\"action\":\"NONE\",\"recordName\":\"b\"},{\"action\":\"NONE\",\"recordName\":\"c\"}]},\"r\":{\"type\":\"REFERENCE\",\"value\":{\"action\":\"NONE\",\"recordName\":\"b\"}}},\"modified\":{\"timestamp\":1000,\"userRecordName\":\"ann\"},\"recordChangeTag\":\"1\",\"recordName\":\"a\",\"recordType\":\"T\"}]}";
+
+#[test]
+fn references_are_answered_unless_they_ask_for_something(rt: HostRuntime) -> Result<(), Fail> {
+    let plain = run(rt.alloc(), WITH_REFERENCES, 65_536, &[])?;
+    assert_eq!(rt; plain.written.as_slice(), WHICH_COME_BACK);
+    for bytes in [
+        b"POST /database/1/iCloud.test/development/private/records/modify?ckAPIToken=api&ckWebAuthToken=wa HTTP/1.1\r\nhost: h\r\ncontent-length: 152\r\n\r\n{\"operations\":[{\"operationType\":\"create\",\"record\":{\"fields\":{\"r\":{\"value\":{\"recordName\":\"b\",\"action\":\"VALIDATE\"}}},\"recordName\":\"a\",\"recordType\":\"T\"}}]}".as_slice(),
+        b"POST /database/1/iCloud.test/development/private/records/modify?ckAPIToken=api&ckWebAuthToken=wa HTTP/1.1\r\nhost: h\r\ncontent-length: 176\r\n\r\n{\"operations\":[{\"operationType\":\"create\",\"record\":{\"fields\":{\"l\":{\"value\":[{\"recordName\":\"b\"},{\"recordName\":\"c\",\"action\":\"DELETE_SELF\"}]}},\"recordName\":\"a\",\"recordType\":\"T\"}}]}".as_slice(),
+    ] {
+        let run = run(rt.alloc(), bytes, 65_536, &[])?;
+        match &run.talk {
+            Err(_) => panic!(rt; "no fault"),
+            Ok(talk) => {
+                assert_eq!(rt; talk.end, End::NotBuilt);
+                assert!(rt; talk.marks.is_empty());
+            }
+        }
+        assert!(rt; run.written.is_empty());
+        assert_eq!(rt; run.seen, 0);
+    }
+    Ok(())
+}
+
 #[test]
 fn a_failing_source_is_a_read_fault(rt: HostRuntime) -> Result<(), Fail> {
     let run = run(rt.alloc(), REQUEST, 65_536, &[1])?;
@@ -167,5 +195,18 @@ fn a_failing_source_is_a_read_fault(rt: HostRuntime) -> Result<(), Fail> {
     }
     assert_eq!(rt; (run.read_faults, run.write_faults), (1, 0));
     assert!(rt; run.written.is_empty());
+    Ok(())
+}
+
+const WITH_FIELDS: &[u8] =
+    b"POST /database/1/iCloud.test/development/private/records/modify?ckAPIToken=api&ckWebAuthToken=wa HTTP/1.1\r\nHOST: h\r\nContent-Length: 191\r\n\r\n{\"operations\":[{\"operationType\":\"create\",\"record\":{\"fields\":{\"l\":{\"value\":[1,2]},\"n\":{\"value\":5},\"t\":{\"type\":\"TIMESTAMP\",\"value\":\"7\"},\"z\":{\"value\":null}},\"recordName\":\"a\",\"recordType\":\"T\"}}]}";
+
+const ITS_RECORD: &[u8] =
+    b"HTTP/1.1 200 OK\r\ncontent-type: application/json\r\ncontent-length: 293\r\n\r\n{\"records\":[{\"created\":{\"timestamp\":1000,\"userRecordName\":\"ann\"},\"fields\":{\"l\":{\"type\":\"INT64_LIST\",\"value\":[1,2]},\"n\":{\"type\":\"INT64\",\"value\":5},\"t\":{\"type\":\"TIMESTAMP\",\"value\":7}},\"modified\":{\"timestamp\":1000,\"userRecordName\":\"ann\"},\"recordChangeTag\":\"1\",\"recordName\":\"a\",\"recordType\":\"T\"}]}";
+
+#[test]
+fn fields_come_back_with_their_types(rt: HostRuntime) -> Result<(), Fail> {
+    let run = run(rt.alloc(), WITH_FIELDS, 65_536, &[])?;
+    assert_eq!(rt; run.written.as_slice(), ITS_RECORD);
     Ok(())
 }

@@ -1,6 +1,24 @@
--- members of JSON objects
+-- the results of a reading, one after another
+pub mod Results
+-- members of objects and elements of arrays
 pub mod Members
--- fields as JSON, and which JSON is one
-pub mod Fields
--- sizes of values
+-- the types of fields, by name and as values show them
+pub mod Types
+-- whole numbers in JSON
+pub mod Numbers
+-- references in JSON
+pub mod References
+-- which value a field's JSON means, or its first fault
+pub mod Reading
+-- the JSON of a value
+pub mod Writing
+-- the values that some JSON means
+pub mod Meant
+-- the size of a value
 pub mod Sizes
+-- the order of values
+pub mod Order
+-- what the order is to be
+pub mod OrderLaws
+-- reading what was written
+pub mod RoundTrip

@@ -1,17 +1,26 @@
-//! The values of fields: what they are, how they stand in JSON, and how large they are.
+//! The values of fields: their six kinds, their JSON both ways, their size and their order.
 #![tactic(auto)]
 
-mod copying;
-mod reading;
-mod sizes;
-mod values;
-mod writing;
-
-pub use copying::copy_value;
-pub use reading::{FieldFault, read_field};
-pub use sizes::size_of;
-pub use values::Value;
-pub use writing::field_json;
-
+mod copy;
+mod fault;
+mod laws;
+mod members;
+mod numbers;
+mod order;
+mod read;
+mod references;
+mod shapes;
+mod size;
 #[cfg(test)]
 mod tests;
+mod value;
+mod write;
+
+pub use copy::copy_value;
+pub use fault::FieldFault;
+pub use laws::{fields_read_back, values_are_ordered};
+pub use order::compare;
+pub use read::read_field;
+pub use size::size_of;
+pub use value::{Action, Kind, RefTo, Value, Values};
+pub use write::field_json;

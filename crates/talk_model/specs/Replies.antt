@@ -1,16 +1,16 @@
 -- What is replied to a request, as JSON and as bytes.
-use Rattle.std.specs.Prelude.{ℕ, List, [], ◌∷◌, ◌++◌, length, fold, codes, decimal}
+use Rattle.std.specs.Prelude.{ℕ, false, List, [], ◌∷◌, ◌++◌, length, fold, codes, decimal}
 use Rattle.serde_json.specs.Data.{Data, unsigned, number, string, array, object, Items, no_items, item, Members, no_members, member, put}
 use Rattle.serde_json.specs.Written.{compact_text}
-use Rattle.field_values.specs.declared.values.Value.{Value}
-use Rattle.field_values.specs.Fields.{field_data}
+use Rattle.field_values.specs.declared.value.Value.{Value}
+use Rattle.field_values.specs.Writing.{field_data}
 use Rattle.zone_model.specs.declared.records.Stamp.{Stamp}
 use Rattle.zone_model.specs.declared.records.Record.{Record}
 use Rattle.zone_model.specs.declared.operations.Op.{Op}
-use Rattle.zone_model.specs.declared.outcomes.OpFault.{OpFault}
-use Rattle.zone_model.specs.declared.outcomes.OpFault.TheVariants.{Exists}
 use Rattle.zone_model.specs.declared.outcomes.Outcome.{Outcome}
 use Rattle.zone_model.specs.declared.outcomes.Outcome.TheVariants.{Put, Refused}
+use Rattle.talk_model.specs.declared.errors.ServerError.{ServerError}
+use Rattle.talk_model.specs.Errors.{error_of, code_of, reason_of}
 
 -- when and by whom a record was written
 abbrev pub stamp_data : Stamp → Data
@@ -18,7 +18,7 @@ stamp_data s = object (member (codes "timestamp") (number (unsigned s.moment)) (
 
 -- the fields as members, each in its place by name
 abbrev pub fields_members : List (List ℕ × Value) → Members
-fields_members fields = fold (λ ms field. put field.0 (field_data field.1) ms) no_members fields
+fields_members fields = fold (λ ms field. put field.0 (field_data false field.1) ms) no_members fields
 
 abbrev pub record_data : Record → Data
 record_data r =
@@ -29,23 +29,16 @@ record_data r =
     (member (codes "recordName") (string r.name)
     (member (codes "recordType") (string r.rtype) no_members))))))
 
--- the code of a fault, and its reason
-abbrev pub code_of : OpFault → List ℕ
-code_of Exists = codes "EXISTS"
-
-abbrev pub reason_of : OpFault → List ℕ
-reason_of Exists = codes "exists"
-
 -- an error in a list, with the name of its record
-abbrev pub error_data : OpFault → List ℕ → Data
-error_data fault name =
-    object (member (codes "reason") (string (reason_of fault))
+abbrev pub error_data : ServerError → List ℕ → Data
+error_data error name =
+    object (member (codes "reason") (string (reason_of error))
     (member (codes "recordName") (string name)
-    (member (codes "serverErrorCode") (string (code_of fault)) no_members)))
+    (member (codes "serverErrorCode") (string (code_of error)) no_members)))
 
 abbrev pub entry_data : Op → Outcome → Data
 entry_data op (Put r) = record_data r
-entry_data op (Refused fault server) = error_data fault op.draft.name
+entry_data op (Refused fault server) = error_data (error_of fault) op.draft.name
 
 -- an entry for each operation
 abbrev pub entries_data : List Op → List Outcome → Items

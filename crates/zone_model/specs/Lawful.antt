@@ -20,7 +20,7 @@ abbrev pub are_ascending : List (List ℕ) → Bool
 are_ascending [] = true
 are_ascending (x ∷ xs) = list_all (is_before x) xs && are_ascending xs
 
--- the commit may follow the log: its zone is there, and it writes something, each name once and in order
+-- the commit may follow the log: its zone is a default one, which is always there, and it writes something, each name once and in order
 abbrev pub is_lawful : List Commit → Commit → Bool
 is_lawful log c =
     let ws = writes_in c.act in

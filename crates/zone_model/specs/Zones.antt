@@ -41,6 +41,6 @@ records_at log key = fold after_write [] (writes_at log key)
 abbrev pub is_there : List Record → List ℕ → Bool
 is_there rows name = list_any (λ (r : Record). same r.name name) rows
 
--- how many commits have put the name in the zone
+-- how often the name was put in the zone; a commit puts it at most once
 abbrev pub puts_at : List Commit → ZoneKey → List ℕ → ℕ
 puts_at log key name = count_by (λ w. same (written_name w) name) (writes_at log key)

@@ -1,4 +1,4 @@
-use Rattle.std.proofs.Common.{◌≡◌, ◌+◌, length, Option}
+use Rattle.std.proofs.Common.{◌≡◌, ◌+◌, length}
 use Rattle.std.specs.Option.{option_map}
 use Rattle.talk_model.specs.Heads.{head_end}
 use Rattle.ck_server.proofs.head.find_head_end.Given as goal

@@ -1,6 +1,6 @@
 use Rattle.std.proofs.Common.{◌≡◌, ◌<◌, length, true, arith}
 use Rattle.zone_model.specs.Lawful.{is_legal}
-use Rattle.ck_server.proofs.StripeLemmas.{stays_legal, asked, failed}
+use Rattle.ck_server.proofs.StripeLemmas.{stays_legal, asked, failed, unchanged}
 use Rattle.ck_server.proofs.solo.SoloBoard.ask.Goals as goal
 
 pub returns-clause-asked : goal.returns-clause-asked
@@ -18,3 +18,9 @@ returns-clause-failed c =
     let legal : is_legal c.args.lock c.ask_stripe.new.events.items ≡ true = stays_legal vs c.args.lock c.args.part.now c.index-self-lock.result c.ask_stripe.new.events within (c.args.self.now.legal c.args.lock c.requires.lock) c.requires.part c.ask_stripe.ensures.legal in
     failed vs c.args.lock c.args.part.now c.index-self-lock.result c.ask_stripe.new.events c.ask_stripe.result within legal
     c.ask_stripe.ensures.err
+
+pub returns-clause-kept : goal.returns-clause-kept
+returns-clause-kept c =
+    let vs = c.args.self.now.stripes in
+    let within : c.args.lock < length vs = omega arith in
+    unchanged vs c.args.lock c.index-self-lock.result c.ask_stripe.new.events c.ask_stripe.result within c.ask_stripe.ensures.err

@@ -1,0 +1,84 @@
+-- One more mark at the end.
+use Rattle.std.proofs.Common.{◌≡◌, ℕ, suc, ◌+◌, ◌≤◌, List, [], ◌∷◌, ◌++◌, length, refl, sym, ap, subst, ◌∙◌, arith, append_assoc, Option}
+use Rattle.std.proofs.lemmas.List.{append-nil}
+use Rattle.std.specs.List.{AllByRecursion, AllZip, concat}
+use Rattle.zone_model.specs.declared.events.Event.{Event}
+use Rattle.zone_model.specs.Histories.{Histories}
+use Rattle.talk_model.specs.declared.marks.At.{At}
+use Rattle.talk_model.specs.declared.marks.Mark.{Mark}
+use Rattle.talk_model.specs.Requests.{Wanted}
+use Rattle.talk_model.specs.Calls.{Asked, asks_of}
+use Rattle.talk_model.specs.Marks.{IsAtOf, IsMarkOf, AreMarksOf, moments_of, asks_in, NotBefore, AreInOrder, marked_by, marked}
+use Rattle.talk_model.specs.Talk.{reply_at, talk}
+
+pub all-snoc : {X : Type 0} (P : X → Type 0) (xs : List X) (x : X) → AllByRecursion P xs → P x → AllByRecursion P (xs ++ x ∷ [])
+all-snoc P [] x all p = (p, tt)
+all-snoc P (y ∷ ys) x all p = (all.0, all-snoc P ys x all.1 p)
+
+all-append : {X : Type 0} (P : X → Type 0) (xs ys : List X) → AllByRecursion P xs → AllByRecursion P ys → AllByRecursion P (xs ++ ys)
+all-append P [] ys p q = q
+all-append P (x ∷ xs) ys p q = (p.0, all-append P xs ys p.1 q)
+
+pub all-map : {X : Type 0} (P Q : X → Type 0) → ((x : X) → P x → Q x) → (xs : List X) → AllByRecursion P xs → AllByRecursion Q xs
+all-map P Q f [] all = tt
+all-map P Q f (x ∷ xs) all = (f x all.0, all-map P Q f xs all.1)
+
+pub zip-snoc : {A B : Type 0} (R : A → B → Type 0) (xs : List A) (ys : List B) (x : A) (y : B) → AllZip R xs ys → R x y → AllZip R (xs ++ x ∷ []) (ys ++ y ∷ [])
+zip-snoc R [] [] x y all r = (r, tt)
+zip-snoc R [] (b ∷ ys) x y all r = absurd all
+zip-snoc R (a ∷ xs) [] x y all r = absurd all
+zip-snoc R (a ∷ xs) (b ∷ ys) x y all r = (all.0, zip-snoc R xs ys x y all.1 r)
+
+pub concat-snoc : (xs : List (List ℕ)) (x : List ℕ) → concat (xs ++ x ∷ []) ≡ concat xs ++ x
+concat-snoc [] x = append-nil x
+concat-snoc (y ∷ ys) x = ap (λ b. y ++ b) (concat-snoc ys x) ∙ sym (append_assoc y (concat ys) x)
+
+pub asks_in-snoc : (marks : List Mark) (m : Mark) → asks_in (marks ++ m ∷ []) ≡ asks_in marks ++ m.asks.items
+asks_in-snoc [] m = append-nil m.asks.items
+asks_in-snoc (a ∷ marks) m = ap (λ b. a.asks.items ++ b) (asks_in-snoc marks m) ∙ sym (append_assoc a.asks.items (asks_in marks) m.asks.items)
+
+pub moments_of-snoc : (marks : List Mark) (m : Mark) → moments_of (marks ++ m ∷ []) ≡ moments_of marks ++ m.moment ∷ []
+moments_of-snoc [] m = refl
+moments_of-snoc (a ∷ marks) m = ap (λ b. a.moment ∷ b) (moments_of-snoc marks m)
+
+pub order-snoc : (ats : List At) (at : At) → AreInOrder ats → AllByRecursion (λ a. NotBefore a at) ats → AreInOrder (ats ++ at ∷ [])
+order-snoc [] at ordered all = (tt, tt)
+order-snoc (a ∷ ats) at ordered all = (all-snoc (NotBefore a) ats at ordered.0 all.0, order-snoc ats at ordered.1 all.1)
+
+pub marked-snoc : (lock : ℕ) (events : List Event) (ats : List At) (at : At) → marked lock events (ats ++ at ∷ []) ≡ marked lock events ats ++ marked_by lock events at
+marked-snoc lock events [] at = append-nil (marked_by lock events at)
+marked-snoc lock events (a ∷ ats) at =
+    ap (λ l. marked_by lock events a ++ l) (marked-snoc lock events ats at) ∙ sym (append_assoc (marked_by lock events a) (marked lock events ats) (marked_by lock events at))
+
+module _ (seats : ℕ → Option ℕ) (entry h : Histories Event) where
+  pub marks-snoc : (number last : ℕ) (marks : List Mark) (ws : List Wanted) (m : Mark) (w : Wanted) → last ≡ number + length marks
+      → AreMarksOf seats number entry h marks ws → IsMarkOf seats last entry h m w → AreMarksOf seats number entry h (marks ++ m ∷ []) (ws ++ w ∷ [])
+  marks-snoc number last [] [] m w e k p = let same : last ≡ number = omega arith in (subst (λ (n : ℕ). IsMarkOf seats n entry h m w) same p, tt)
+  marks-snoc number last [] (v ∷ ws) m w e k p = absurd k
+  marks-snoc number last (a ∷ marks) [] m w e k p = absurd k
+  marks-snoc number last (a ∷ marks) (v ∷ ws) m w e k p = (k.0, marks-snoc (suc number) last marks ws m w (omega arith) k.1 p)
+
+  pub talk-snoc : (number : ℕ) (marks : List Mark) (ws : List Wanted) (m : Mark) (w : Wanted)
+      → AreMarksOf seats number entry h marks ws → talk (ws ++ w ∷ []) (marks ++ m ∷ []) h ≡ talk ws marks h ++ reply_at h m w
+  talk-snoc number [] [] m w k = append-nil (reply_at h m w)
+  talk-snoc number [] (v ∷ ws) m w k = absurd k
+  talk-snoc number (a ∷ marks) [] m w k = absurd k
+  talk-snoc number (a ∷ marks) (v ∷ ws) m w k = ap (λ t. reply_at h a v ++ t) (talk-snoc (suc number) marks ws m w k.1) ∙ sym (append_assoc (reply_at h a v) (talk ws marks h) (reply_at h m w))
+
+  -- as many marks as requests
+  pub marks-length : (number : ℕ) (marks : List Mark) (ws : List Wanted) → AreMarksOf seats number entry h marks ws → length marks ≡ length ws
+  marks-length number [] [] k = refl
+  marks-length number [] (w ∷ ws) k = absurd k
+  marks-length number (m ∷ marks) [] k = absurd k
+  marks-length number (m ∷ marks) (w ∷ ws) k = ap suc (marks-length (suc number) marks ws k.1)
+
+  ats-within : (ats : List At) (askeds : List Asked) → AllZip (IsAtOf seats entry h) ats askeds → AllByRecursion (λ (at : At). at.len ≤ length (h at.lock)) ats
+  ats-within [] askeds k = tt
+  ats-within (at ∷ ats) [] k = absurd k
+  ats-within (at ∷ ats) (a ∷ askeds) k = ((k.0).within, ats-within ats askeds k.1)
+
+  -- each ask of the marks lies within the histories
+  pub marks-within : (number : ℕ) (marks : List Mark) (ws : List Wanted) → AreMarksOf seats number entry h marks ws → AllByRecursion (λ (at : At). at.len ≤ length (h at.lock)) (asks_in marks)
+  marks-within number [] ws k = tt
+  marks-within number (m ∷ marks) [] k = absurd k
+  marks-within number (m ∷ marks) (w ∷ ws) k = all-append _ m.asks.items (asks_in marks) (ats-within m.asks.items (asks_of w m.moment) (k.0).asks) (marks-within (suc number) marks ws k.1)

@@ -1,0 +1,74 @@
+-- When marks fit requests and the histories of the locks.
+use Rattle.std.specs.Prelude.{◌≡◌, ℕ, suc, ◌-◌, ◌<◌, ◌≤◌, ◌&&◌, ◌==◌, true, List, [], ◌∷◌, ◌++◌, length, map, take, drop, Option, Some, if◌then◌else◌, ⊤}
+use Rattle.std.specs.List.{AllByRecursion, AllZip, flat_map}
+use Rattle.zone_model.specs.declared.events.Event.{Event}
+use Rattle.zone_model.specs.Histories.{Histories}
+use Rattle.zone_model.specs.Events.{own_of}
+use Rattle.board_model.specs.Asks.{made, makes, commits_by}
+use Rattle.talk_model.specs.declared.marks.At.{At}
+use Rattle.talk_model.specs.declared.marks.Mark.{Mark}
+use Rattle.talk_model.specs.Requests.{Wanted}
+use Rattle.talk_model.specs.Calls.{Asked, asks_of}
+
+-- the seat that a board has at a lock stays
+abbrev pub SeatsStay : (ℕ → Option ℕ) → (ℕ → Option ℕ) → Type 0
+SeatsStay old new = (lock n : ℕ) → old lock ≡ Some n → new lock ≡ Some n
+
+-- the history that an ask was answered at: the first events up to its length, less its own
+abbrev pub base_of : Histories Event → At → List Event
+base_of h at = take (at.len - (if at.event then 1 else 0)) (h at.lock)
+
+-- The trace tells the ask of a part at its lock: a length that lies in what the history grew by, whether something is made at
+-- the history that it found, and then, as the last event, what is made there by this board.
+pub record IsAtOf (seats : ℕ → Option ℕ) (entry now : Histories Event) (at : At) (asked : Asked) : Type 0 where
+  pub seat : ℕ
+  pub sits : seats at.lock ≡ Some seat
+  pub lock : at.lock ≡ asked.lock
+  pub since_entry : length (entry at.lock) ≤ at.len
+  pub past_entry : at.event ≡ true → length (entry at.lock) < at.len
+  pub within : at.len ≤ length (now at.lock)
+  pub event : at.event ≡ makes (commits_by (base_of now at) asked.part)
+  pub event_is : take at.len (now at.lock) ≡ base_of now at ++ made seat (base_of now at) asked.part
+
+-- The mark tells a request: its number, and each of its asks at the moment that it tells. No request draws a word yet.
+pub record IsMarkOf (seats : ℕ → Option ℕ) (number : ℕ) (entry now : Histories Event) (m : Mark) (w : Wanted) : Type 0 where
+  pub request : m.request ≡ number
+  pub words : m.words.items ≡ []
+  pub drawn : m.drawn ≡ true
+  pub asks : AllZip (IsAtOf seats entry now) m.asks.items (asks_of w m.moment)
+
+-- one mark for each request, in order, counted from this number
+abbrev pub AreMarksOf : (ℕ → Option ℕ) → ℕ → Histories Event → Histories Event → List Mark → List Wanted → Type 0
+AreMarksOf seats number entry now [] [] = ⊤
+AreMarksOf seats number entry now [] (w ∷ ws) = ⊥
+AreMarksOf seats number entry now (m ∷ marks) [] = ⊥
+AreMarksOf seats number entry now (m ∷ marks) (w ∷ ws) = IsMarkOf seats number entry now m w × AreMarksOf seats (suc number) entry now marks ws
+
+-- the moments of the marks, in order
+abbrev pub moments_of : List Mark → List ℕ
+moments_of marks = map (λ m. m.moment) marks
+
+-- the asks of the marks, in order
+abbrev pub asks_in : List Mark → List At
+asks_in marks = flat_map (λ m. m.asks.items) marks
+
+-- at one lock a later ask finds no shorter history, and a longer one where it made an event
+abbrev pub NotBefore : At → At → Type 0
+NotBefore a b = a.lock ≡ b.lock → (a.len ≤ b.len) × (b.event ≡ true → a.len < b.len)
+
+-- so it is with each ask and all later ones
+abbrev pub AreInOrder : List At → Type 0
+AreInOrder [] = ⊤
+AreInOrder (a ∷ ats) = AllByRecursion (NotBefore a) ats × AreInOrder ats
+
+-- the event of an ask at the lock, where it made one
+abbrev pub marked_by : ℕ → List Event → At → List Event
+marked_by lock events at = if (at.lock == lock) && at.event then drop (at.len - 1) (take at.len events) else []
+
+-- the events at a lock that the asks made
+abbrev pub marked : ℕ → List Event → List At → List Event
+marked lock events ats = flat_map (marked_by lock events) ats
+
+-- The board's own events beyond those at entry are just those that the asks made.
+abbrev pub OwnAreMarked : (ℕ → Option ℕ) → Histories Event → Histories Event → List At → Type 0
+OwnAreMarked seats entry now ats = (lock : ℕ) → own_of (seats lock) (drop (length (entry lock)) (now lock)) ≡ marked lock (now lock) ats
