@@ -73,51 +73,43 @@ fn run_once(alloc: Global, args: &[&str], input: &[u8], fails: Fails) -> Result<
 }
 
 #[test]
-fn each_status_has_its_line(rt: HostRuntime) -> Result<(), Fail> {
+fn refused_words_and_files_have_their_line(rt: HostRuntime) -> Result<(), Fail> {
+    for (args, status, line) in [
+        ([].as_slice(), 2, "wrong words\n"),
+        (["--help"].as_slice(), 2, "wrong words\n"),
+        (["users", "--moment", "x"].as_slice(), 2, "wrong words\n"),
+        (
+            ["users", "--moment", "18446744073709551616"].as_slice(),
+            2,
+            "wrong words\n",
+        ),
+        (["none"].as_slice(), 3, "bad file none\n"),
+        (["bad"].as_slice(), 3, "bad file bad\n"),
+    ] {
+        let ran = run_once(rt.alloc(), args, REQUEST, NONE)?;
+        assert_eq!(rt; ran.status, status, "{line}");
+        assert_eq!(rt; ran.line.as_slice(), line.as_bytes());
+        assert!(rt; ran.written.is_empty());
+    }
+    Ok(())
+}
+
+#[test]
+fn ends_and_faults_have_their_line(rt: HostRuntime) -> Result<(), Fail> {
     let fails = [
         Fails { shelf: 1, ..NONE },
         Fails { source: 1, ..NONE },
         Fails { sink: 1, ..NONE },
     ];
-    for (args, input, fails, status, line) in [
-        ([].as_slice(), REQUEST, NONE, 2, "wrong words\n"),
-        (["--help"].as_slice(), REQUEST, NONE, 2, "wrong words\n"),
-        (
-            ["users", "--moment", "x"].as_slice(),
-            REQUEST,
-            NONE,
-            2,
-            "wrong words\n",
-        ),
-        (
-            ["users", "--moment", "18446744073709551616"].as_slice(),
-            REQUEST,
-            NONE,
-            2,
-            "wrong words\n",
-        ),
-        (["none"].as_slice(), REQUEST, NONE, 3, "bad file none\n"),
-        (["bad"].as_slice(), REQUEST, NONE, 3, "bad file bad\n"),
-        (
-            ["users"].as_slice(),
-            b"x".as_slice(),
-            NONE,
-            4,
-            "ended: Cut\n",
-        ),
-        (
-            ["users"].as_slice(),
-            b"x\r\n\r\n".as_slice(),
-            NONE,
-            4,
-            "ended: NotBuilt\n",
-        ),
-        (["users"].as_slice(), REQUEST, fails[0], 1, "device fault\n"),
-        (["users"].as_slice(), REQUEST, fails[1], 1, "device fault\n"),
-        (["users"].as_slice(), REQUEST, fails[2], 1, "device fault\n"),
-        (["users"].as_slice(), b"".as_slice(), NONE, 0, ""),
+    for (input, fails, status, line) in [
+        (b"x".as_slice(), NONE, 4, "ended: Cut\n"),
+        (b"x\r\n\r\n".as_slice(), NONE, 4, "ended: NotBuilt\n"),
+        (REQUEST, fails[0], 1, "device fault\n"),
+        (REQUEST, fails[1], 1, "device fault\n"),
+        (REQUEST, fails[2], 1, "device fault\n"),
+        (b"".as_slice(), NONE, 0, ""),
     ] {
-        let ran = run_once(rt.alloc(), args, input, fails)?;
+        let ran = run_once(rt.alloc(), ["users"].as_slice(), input, fails)?;
         assert_eq!(rt; ran.status, status, "{line}");
         assert_eq!(rt; ran.line.as_slice(), line.as_bytes());
         assert!(rt; ran.written.is_empty());
