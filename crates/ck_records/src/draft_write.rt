@@ -1,0 +1,162 @@
+// The JSON of a draft.
+ghost use Rattle.std.specs.Prelude.{◌≡◌, IfOk, map, option_map};
+ghost use Rattle.serde_json.specs.Data.{string, object};
+ghost use Rattle.serde_json.specs.View.{view};
+ghost use Rattle.ck_records.specs.DraftWriting.{wish_data, wishes_members, wishes_data, parent_data, root_data, wanted_data, wanted_list_data, public_data, draft_data};
+
+use crate::members::put_some;
+use crate::words::{kind_name, permission_name};
+use crate::write::{name_json, user_json};
+use crate::{Draft, ForRoot, ParentWish, WantedList, Wish};
+use ck_base::{NoMemory, RecordName, Text};
+use field_values::{Value, field_json};
+use serde_json::{Map, Value as Json, json, put};
+use share_records::{Permission, Wanted};
+use std::alloc::Global;
+
+fn name_text(alloc: Global, name: &Option<RecordName>) -> Result<Option<Json>, NoMemory>
+    ensures { IfOk result (λ json. option_map view json ≡ option_map string name.now) }
+{
+    match name {
+        Some(name) => Ok(Some(Json::try_from_str(alloc, name.as_str())?)),
+        None => Ok(None),
+    }
+}
+
+fn text_json(alloc: Global, text: &Option<Text>) -> Result<Option<Json>, NoMemory>
+    ensures { IfOk result (λ json. option_map view json ≡ option_map string text.now) }
+{
+    match text {
+        Some(text) => Ok(Some(Json::try_from_str(alloc, text.as_str())?)),
+        None => Ok(None),
+    }
+}
+
+fn parent_json(alloc: Global, parent: &ParentWish) -> Result<Option<Json>, NoMemory>
+    ensures { IfOk result (λ json. option_map view json ≡ parent_data parent.now) }
+{
+    match parent {
+        ParentWish::Absent => Ok(None),
+        ParentWish::Null => Ok(Some(Json::Null)),
+        ParentWish::To(name) => Ok(Some(name_json(alloc, name)?)),
+    }
+}
+
+fn root_json(alloc: Global, root: &ForRoot) -> Result<Json, NoMemory>
+    ensures { IfOk result (λ json. view json ≡ root_data root.now) }
+{
+    let name = root.name.as_str();
+    match &root.tag {
+        Some(tag) => {
+            let tag = tag.as_str();
+            Ok(json!(in alloc; {"recordChangeTag": tag, "recordName": name})?)
+        }
+        None => Ok(json!(in alloc; {"recordName": name})?),
+    }
+}
+
+fn roots_json(alloc: Global, root: &Option<ForRoot>) -> Result<Option<Json>, NoMemory>
+    ensures { IfOk result (λ json. option_map view json ≡ option_map root_data root.now) }
+{
+    match root {
+        Some(root) => Ok(Some(root_json(alloc, root)?)),
+        None => Ok(None),
+    }
+}
+
+fn public_json(alloc: Global, public: Option<Permission>) -> Result<Option<Json>, NoMemory>
+    ensures { IfOk result (λ json. option_map view json ≡ option_map public_data public) }
+{
+    match public {
+        Some(public) => Ok(Some(Json::try_from_str(alloc, permission_name(public))?)),
+        None => Ok(None),
+    }
+}
+
+fn wanted_json(alloc: Global, wanted: &Wanted) -> Result<Json, NoMemory>
+    ensures { IfOk result (λ json. view json ≡ wanted_data wanted.now) }
+{
+    let permission = permission_name(wanted.permission);
+    let kind = kind_name(wanted.kind);
+    let identity = user_json(alloc, &wanted.user)?;
+    Ok(json!(in alloc; {
+        "permission": permission,
+        "type": kind,
+        "userIdentity": identity
+    })?)
+}
+
+fn wanted_list(alloc: Global, list: &[Wanted]) -> Result<Vec<Json>, NoMemory>
+    ensures { IfOk result (λ items. map view items.items ≡ map wanted_data list.now) }
+{
+    let mut items = Vec::new(alloc);
+    for wanted in list {
+        items.push(wanted_json(alloc, wanted)?)?;
+    }
+    Ok(items)
+}
+
+fn wanted_list_json(alloc: Global, list: &Option<WantedList>) -> Result<Option<Json>, NoMemory>
+    ensures { IfOk result (λ json. option_map view json ≡ option_map wanted_list_data list.now) }
+{
+    match list {
+        Some(list) => Ok(Some(Json::Array(wanted_list(alloc, list.as_slice())?))),
+        None => Ok(None),
+    }
+}
+
+fn wish_json(alloc: Global, value: &Option<Value>) -> Result<Json, NoMemory>
+    ensures { IfOk result (λ json. view json ≡ wish_data value.now) }
+{
+    match value {
+        Some(value) => field_json(alloc, value, false),
+        None => Ok(json!(in alloc; {"value": null})?),
+    }
+}
+
+fn wishes_object(alloc: Global, wishes: &[Wish]) -> Result<Json, NoMemory>
+    ensures { IfOk result (λ json. view json ≡ object (wishes_members wishes.now)) }
+{
+    let mut members = Map::new(alloc);
+    for wish in wishes {
+        let value = wish_json(alloc, &wish.1)?;
+        put(&mut members, alloc, wish.0.as_str(), value)?;
+    }
+    Ok(Json::Object(members))
+}
+
+fn wishes_json(alloc: Global, wishes: &[Wish]) -> Result<Option<Json>, NoMemory>
+    ensures { IfOk result (λ json. option_map view json ≡ wishes_data wishes.now) }
+{
+    if wishes.is_empty() {
+        return Ok(None);
+    }
+    Ok(Some(wishes_object(alloc, wishes)?))
+}
+
+/// The JSON of a record in a request, by "Record Dictionary" of the CloudKit Web Services
+/// Reference, which `read_record` reads as this draft. What the draft leaves open is left out, and
+/// so is `fields` where it gives none. Whole numbers are written as numbers, and each participant
+/// with its type and its permission. It fails only where memory runs out.
+pub fn draft_json(alloc: Global, draft: &Draft) -> Result<Json, NoMemory>
+    ensures { IfOk result (λ json. view json ≡ draft_data draft.now) }
+{
+    let fields = wishes_json(alloc, draft.fields.as_slice())?;
+    let for_root = roots_json(alloc, &draft.for_root)?;
+    let parent = parent_json(alloc, &draft.parent)?;
+    let participants = wanted_list_json(alloc, &draft.participants)?;
+    let public = public_json(alloc, draft.public)?;
+    let tag = text_json(alloc, &draft.tag)?;
+    let name = name_text(alloc, &draft.name)?;
+    let rtype = name_text(alloc, &draft.rtype)?;
+    let mut members = Map::new(alloc);
+    put_some(&mut members, alloc, "recordType", rtype)?;
+    put_some(&mut members, alloc, "recordName", name)?;
+    put_some(&mut members, alloc, "recordChangeTag", tag)?;
+    put_some(&mut members, alloc, "publicPermission", public)?;
+    put_some(&mut members, alloc, "participants", participants)?;
+    put_some(&mut members, alloc, "parent", parent)?;
+    put_some(&mut members, alloc, "forRecord", for_root)?;
+    put_some(&mut members, alloc, "fields", fields)?;
+    Ok(Json::Object(members))
+}

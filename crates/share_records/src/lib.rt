@@ -1,0 +1,10 @@
+//! Shares of records: what they let their participants do, and who these are.
+#![tactic(auto)]
+
+mod participant;
+mod permission;
+mod share;
+
+pub use participant::{PartKind, Participant, Participants, Wanted};
+pub use permission::Permission;
+pub use share::Share;
