@@ -2,7 +2,11 @@
 pub mod Told
 -- names and the locks of zones
 pub mod Names
+-- the order of names
+pub mod Order
 -- reading a name, with its first fault
 pub mod Reading
+-- numbers in texts
+pub mod Numbers
 -- share links
 pub mod Guids

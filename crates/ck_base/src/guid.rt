@@ -1,14 +1,15 @@
 // Short GUIDs of shares.
-ghost use Rattle.std.specs.Prelude.{◌≡◌, IsTrue, ◌↔◌, IfSome, IfNone};
-ghost use Rattle.std.specs.List.{AllPass};
-ghost use Rattle.ck_base.specs.Guids.{is_hex_digit, IsGuid};
+ghost use Rattle.std.specs.Prelude.{◌≡◌, IfSome};
+ghost use Rattle.std.specs.List.{list_all};
+ghost use Rattle.ck_base.specs.Guids.{is_hex_digit, IsGuid, guid_of};
 
 use std::marker::Model;
 
 const DIGITS: usize = 33;
 
-/// The short GUID of a share, by which others find it: 33 lower-case hexadecimal digits. The first
-/// is the number of the zone's lock, and the others are a random word.
+/// The short GUID of a share, by which others find it: 33 lower-case hexadecimal digits. In
+/// one that is made here the first is the number of the zone's lock, and the others are a random
+/// word.
 #[derive(Clone, Copy, Debug, PartialEq, Eq, PartialOrd, Ord)]
 pub struct Guid {
     digits: [u8; 33],
@@ -34,7 +35,7 @@ fn is_hex(byte: u8) -> bool
 }
 
 fn all_hex(bytes: &[u8]) -> bool
-    ensures { IsTrue result ↔ AllPass is_hex_digit bytes.now }
+    ensures { result ≡ list_all is_hex_digit bytes.now }
 {
     bytes.iter().all(|byte| is_hex(*byte))
 }
@@ -42,8 +43,8 @@ fn all_hex(bytes: &[u8]) -> bool
 impl Guid {
     /// The GUID of these digits, or `None` where they are none.
     pub fn from_bytes(bytes: &[u8]) -> Option<Self>
-        ensures guid { IfSome result (λ guid. (guid ≡ bytes.now) × IsGuid bytes.now) }
-        ensures other { IfNone result (¬ IsGuid bytes.now) }
+        ensures guid { result ≡ guid_of bytes.now }
+        ensures form { IfSome result IsGuid }
     {
         if bytes.len() != DIGITS || !all_hex(bytes) {
             return None;

@@ -10,6 +10,7 @@ mod lists;
 mod lock;
 mod memory;
 mod name;
+mod number;
 mod route;
 mod scope;
 mod steps;
@@ -25,6 +26,7 @@ pub use name::{
     Name, NameFault, OfRecord, OfUser, OfZone, RecordName, UserName, ZoneName, record_name,
     user_name, zone_name,
 };
+pub use number::read_number;
 pub use route::{Database, Operation, Route};
 pub use scope::Scope;
 pub use steps::{Steps, Top};

@@ -2,9 +2,9 @@
 ghost use Rattle.std.specs.Prelude.{◌≡◌, not};
 ghost use Rattle.std.specs.Option.{option_map};
 ghost use Rattle.std.specs.Str.Parse.{starts_with_minus};
-ghost use Rattle.ck_command.specs.Words.{number_of, asked_of};
+ghost use Rattle.ck_command.specs.Words.{asked_of};
 
-use ck_base::Text;
+use ck_base::{Text, read_number};
 
 /// What the words of `run` ask for: the file of the users, and perhaps a moment in milliseconds
 /// that stands for the clock.
@@ -19,17 +19,6 @@ fn names_file(word: &str) -> bool
     ensures { result ≡ not (starts_with_minus word.now) }
 {
     !word.starts_with('-')
-}
-
-// The number that a word is, as std's `parse` reads a u64.
-#[tactic(auto, using(crate::proofs::WordLemmas::parsed_number))]
-fn read_number(word: &str) -> Option<u64>
-    ensures { result ≡ number_of word.now }
-{
-    match word.parse::<u64>() {
-        Ok(number) => Some(number),
-        Err(_) => None,
-    }
 }
 
 /// Reads `USERS` or `USERS --moment N`, with N as std's `parse` reads a u64. Other words are `None`.

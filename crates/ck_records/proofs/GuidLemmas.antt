@@ -3,7 +3,6 @@ use Rattle.std.proofs.Common.{◌≡◌, ℕ, zero, suc, ◌<◌, List, [], ◌�
 use Rattle.std.specs.Prelude.{slice_index, IsUtf8}
 use Rattle.std.specs.List.{list_all}
 use Rattle.std.proofs.lemmas.Bool.{and_parts, or_cases, leb-true}
-use Rattle.std.proofs.lemmas.List.Sums.{list_all-from_AllPass}
 use Rattle.std.proofs.lemmas.Str.{IsUtf8-from_ascii}
 use Rattle.ck_base.specs.Guids.{is_hex_digit, IsGuid}
 
@@ -19,4 +18,4 @@ all_low (b ∷ bs) h zero = digit_low b (and_parts (is_hex_digit b) _ h).0
 all_low (b ∷ bs) h (suc i) = all_low bs (and_parts (is_hex_digit b) _ h).1 i
 
 pub guid_is_text : (bs : List ℕ) → IsGuid bs → IsUtf8 bs
-guid_is_text bs guid = IsUtf8-from_ascii bs (all_low bs (list_all-from_AllPass is_hex_digit bs guid.1))
+guid_is_text bs guid = IsUtf8-from_ascii bs (all_low bs guid.1)

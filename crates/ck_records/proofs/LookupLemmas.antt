@@ -10,7 +10,7 @@ use Rattle.std.specs.List.{list_all}
 use Rattle.std.specs.Ordering.{match_ordering, ordering_reverse}
 use Rattle.serde_json.specs.Data.{Data, Members, no_members, member, put}
 use Rattle.serde_json.specs.Find.{get_member}
-use Rattle.ck_records.specs.Names.{is_before, are_ascending}
+use Rattle.ck_base.specs.Order.{is_before, are_ascending}
 use Rattle.ck_records.specs.Objects.{present}
 use Rattle.ck_records.specs.DraftFields.{entries}
 use Rattle.ck_records.proofs.ObjectLemmas.{Listed, is_less}

@@ -5,7 +5,7 @@ use Rattle.std.specs.Cmp.Lexicographic.{slice_cmp}
 use Rattle.std.specs.List.{list_all}
 use Rattle.std.specs.Ordering.{is_lt}
 use Rattle.serde_json.specs.Data.{Data, Members, member, put}
-use Rattle.ck_records.specs.Names.{is_before}
+use Rattle.ck_base.specs.Order.{is_before}
 use Rattle.ck_records.specs.Objects.{present, put_some}
 
 abbrev pub Listed : Type 0

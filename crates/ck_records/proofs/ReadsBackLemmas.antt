@@ -28,7 +28,7 @@ use Rattle.ck_records.specs.Participants.{may_have, entry_of, entries_of, partic
 use Rattle.ck_records.specs.DraftFields.{entries, is_named, wish_of, wishes_in, fields_at}
 use Rattle.ck_records.specs.Reading.{name_at, tag_at, parent_at, root_at, public_at, draft_from}
 use Rattle.ck_records.specs.DraftWriting.{wish_data, wishes_members, wishes_data, parent_data, root_data, wanted_data, wanted_list_data, public_data, draft_data}
-use Rattle.ck_records.specs.Meant.{IsParent, IsRoot, IsWanted, IsWish, AreWishes}
+use Rattle.ck_records.specs.Meant.{IsParentWish, IsForRoot, IsWanted, IsWish, AreWishes}
 use Rattle.ck_records.specs.RoundTrip.{DraftsReadBack}
 use Rattle.ck_records.proofs.ObjectLemmas.{Listed}
 use Rattle.ck_records.proofs.LookupLemmas.{listed, get_present, entries_at, put_in_order}
@@ -43,7 +43,7 @@ name_told bytes name =
 -- ---- the members of a draft
 
 -- a member as it is looked for
-abbrev there : Option Data → Option Data
+abbrev pub there : Option Data → Option Data
 there o = option_and_then unless_null o
 
 name_reads : (key : RecordKey) (o : Option (List ℕ)) → IfSome o IsName → name_at key (there (option_map string o)) ≡ Ok o
@@ -54,7 +54,7 @@ tag_reads : (o : Option (List ℕ)) → tag_at (there (option_map string o)) ≡
 tag_reads None = refl
 tag_reads (Some tag) = refl
 
-parent_reads : (p : ParentWish) → IsParent p → parent_at (parent_data p) ≡ Ok p
+parent_reads : (p : ParentWish) → IsParentWish p → parent_at (parent_data p) ≡ Ok p
 parent_reads Absent is = refl
 parent_reads Null is = refl
 parent_reads (To name) is = rw (name_told name is) refl
@@ -63,9 +63,9 @@ root_reads : (name : List ℕ) (tag : Option (List ℕ)) → IsName name → roo
 root_reads name None is = rw (name_told name is) refl
 root_reads name (Some tag) is = rw (name_told name is) refl
 
-roots_read : (o : Option ForRoot) → IfSome o IsRoot → root_at (there (option_map root_data o)) ≡ Ok o
+roots_read : (o : Option ForRoot) → IfSome o IsForRoot → root_at (there (option_map root_data o)) ≡ Ok o
 roots_read None is = refl
-roots_read (Some root) is = root_reads root.name root.tag is
+roots_read (Some root) is = root_reads root.name root.tag is.0
 
 public_reads : (o : Option Permission) → public_at (there (option_map public_data o)) ≡ Ok o
 public_reads None = refl

@@ -23,7 +23,7 @@ use Rattle.field_values.specs.Results.{result_map, result_and_then, each_or_firs
 use Rattle.ck_records.specs.declared.fault.RecordFault.{RecordFault}
 use Rattle.ck_records.specs.declared.fault.RecordFault.TheVariants.{BadKey}
 use Rattle.ck_records.specs.declared.fault.RecordKey.TheVariants.{Fields}
-use Rattle.ck_records.specs.Names.{is_before, are_ascending}
+use Rattle.ck_base.specs.Order.{is_before, are_ascending}
 use Rattle.ck_records.specs.DraftFields.{entries, in_field, wish_of}
 
 abbrev pub Entry : Type 0

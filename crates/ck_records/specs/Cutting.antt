@@ -5,8 +5,8 @@ use Rattle.field_values.specs.declared.value.Value.{Value}
 use Rattle.ck_records.specs.declared.records.Record.{Record}
 
 -- the field's name is among those that are asked for
-abbrev pub is_kept : List (List ℕ) → List ℕ × Value → Bool
-is_kept keys field = list_any (λ key. bytes_eq key field.0) keys
+abbrev pub is_asked_for : List (List ℕ) → List ℕ × Value → Bool
+is_asked_for keys field = list_any (λ key. bytes_eq key field.0) keys
 
 abbrev pub cut : List (List ℕ) → Record → Record
-cut keys r = record r { fields = filter (is_kept keys) r.fields }
+cut keys r = record r { fields = filter (is_asked_for keys) r.fields }

@@ -13,7 +13,7 @@ use Rattle.field_values.specs.Results.{each_or_first_error}
 use Rattle.ck_records.specs.declared.fault.RecordFault.{RecordFault}
 use Rattle.ck_records.specs.declared.fault.RecordFault.TheVariants.{BadKey, BadField}
 use Rattle.ck_records.specs.declared.fault.RecordKey.TheVariants.{Fields}
-use Rattle.ck_records.specs.Steps.{◌>>=◌}
+use Rattle.ck_records.specs.Sequence.{◌>>=◌}
 
 -- the members of an object as a list, in ascending order of their names
 abbrev pub entries : Members → List (List ℕ × Data)
@@ -35,7 +35,7 @@ wish_of here caller entry = do
   value ← in_field name (field_of here caller entry.1)
   Ok (name, value)
 
--- where each member has the name of a field, the first fault is that of the first field
+-- where each member has the name of a field, the first fault is that of the first field that has one
 abbrev pub wishes_in : ZoneKey → List ℕ → Option Members → Result (List (List ℕ × Option Value)) RecordFault
 wishes_in here caller None = Err (BadKey Fields)
 wishes_in here caller (Some ms) =

@@ -1,4 +1,5 @@
 -- Which value a filter may have with which comparator.
+-- Comparators are those of "Filter Dictionary" in the CloudKit Web Services Reference.
 use Rattle.std.specs.Prelude.{Bool, true, false, not}
 use Rattle.field_values.specs.declared.value.Value.{Value, out-Value}
 use Rattle.field_values.specs.declared.value.Value.TheOpen.{Value-F}
@@ -27,26 +28,26 @@ is_string_level (Value-F.List k vs) = false
 abbrev pub is_string : Value → Bool
 is_string v = is_string_level (out-Value v)
 
-abbrev pub has_order_level : Value-F Value → Bool
-has_order_level (Value-F.Int64 n) = true
-has_order_level (Value-F.Timestamp n) = true
-has_order_level (Value-F.Text t) = true
-has_order_level (Value-F.Bytes b) = true
-has_order_level (Value-F.Reference r) = false
-has_order_level (Value-F.List k vs) = false
+abbrev pub is_comparable_level : Value-F Value → Bool
+is_comparable_level (Value-F.Int64 n) = true
+is_comparable_level (Value-F.Timestamp n) = true
+is_comparable_level (Value-F.Text t) = true
+is_comparable_level (Value-F.Bytes b) = true
+is_comparable_level (Value-F.Reference r) = false
+is_comparable_level (Value-F.List k vs) = false
 
 -- neither a list nor a reference
-abbrev pub has_order : Value → Bool
-has_order v = has_order_level (out-Value v)
+abbrev pub is_comparable : Value → Bool
+is_comparable v = is_comparable_level (out-Value v)
 
 -- the value is what the comparator wants
 abbrev pub fits : Comparator → Value → Bool
 fits Equals w = true
 fits NotEquals w = true
-fits LessThan w = has_order w
-fits LessThanOrEquals w = has_order w
-fits GreaterThan w = has_order w
-fits GreaterThanOrEquals w = has_order w
+fits LessThan w = is_comparable w
+fits LessThanOrEquals w = is_comparable w
+fits GreaterThan w = is_comparable w
+fits GreaterThanOrEquals w = is_comparable w
 fits In w = is_list w
 fits NotIn w = is_list w
 fits BeginsWith w = is_string w

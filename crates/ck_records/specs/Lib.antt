@@ -1,5 +1,3 @@
--- the order of names
-pub mod Names
 -- which value a filter may have with which comparator
 pub mod Fits
 -- the size of a record
@@ -9,7 +7,7 @@ pub mod Cutting
 -- the words of shares in JSON
 pub mod Words
 -- one reading after another
-pub mod Steps
+pub mod Sequence
 -- objects some of whose members may be missing
 pub mod Objects
 -- the JSON of a record in a reply
@@ -28,3 +26,9 @@ pub mod Meant
 pub mod DraftWriting
 -- reading what was written
 pub mod RoundTrip
+-- the form of the records that a zone keeps
+pub mod Stored
+-- which record the JSON in a reply is
+pub mod Replied
+-- which record JSON shows
+pub mod Shown

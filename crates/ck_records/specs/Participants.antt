@@ -1,6 +1,6 @@
 -- Which participants a list of them in a request wants.
-use Rattle.std.specs.Prelude.{ℕ, Bool, true, false, if◌then◌else◌, List, [], ◌∷◌, ◌++◌, codes, Option, None, Some, option_and_then, ok_or, Result, Ok, Err}
-use Rattle.std.specs.Option.{option_to_list}
+-- Their form is this project's own.
+use Rattle.std.specs.Prelude.{ℕ, Bool, true, false, if◌then◌else◌, List, codes, Option, None, Some, option_and_then, ok_or, Result, Ok, Err}
 use Rattle.serde_json.specs.Data.{Data, Items}
 use Rattle.serde_json.specs.Find.{as_str, as_array}
 use Rattle.field_values.specs.Members.{found, elements}
@@ -15,7 +15,7 @@ use Rattle.ck_records.specs.declared.fault.RecordFault.{RecordFault}
 use Rattle.ck_records.specs.declared.fault.RecordFault.TheVariants.{BadKey}
 use Rattle.ck_records.specs.declared.fault.RecordKey.TheVariants.{Participants}
 use Rattle.ck_records.specs.Words.{permission_named, type_named}
-use Rattle.ck_records.specs.Steps.{◌>>=◌}
+use Rattle.ck_records.specs.Sequence.{each_found}
 
 -- whom an entry is for, a user of the owner's choice where it has no type
 abbrev pub type_in : Option Data → Option EntryType
@@ -57,11 +57,7 @@ entry_of d = entry_as d (type_in (found (codes "type") d))
 
 -- the participants that entries want
 abbrev pub entries_of : List Data → Result (List Wanted) RecordFault
-entries_of [] = Ok []
-entries_of (d ∷ ds) = do
-  entry ← entry_of d
-  rest ← entries_of ds
-  Ok (option_to_list entry ++ rest)
+entries_of = each_found entry_of
 
 abbrev pub list_in : Option Items → Result (List Wanted) RecordFault
 list_in None = Err (BadKey Participants)

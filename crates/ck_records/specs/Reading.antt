@@ -1,4 +1,6 @@
 -- Which draft the JSON of a record in a request means, or the first fault.
+-- It is the one of "Record Dictionary" in the CloudKit Web Services Reference; the meaning of parent, share and forRecord, and the
+-- participants, are this project's own.
 use Rattle.std.specs.Prelude.{ℕ, Bool, if◌then◌else◌, List, codes, Option, None, Some, is_some, option_map, option_and_then, ok_or, Result, Ok, Err}
 use Rattle.serde_json.specs.Data.{Data}
 use Rattle.serde_json.specs.Find.{get, as_str, as_object}
@@ -20,7 +22,7 @@ use Rattle.ck_records.specs.declared.fault.RecordFault.TheVariants.{NotARecord, 
 use Rattle.ck_records.specs.Words.{permission_named}
 use Rattle.ck_records.specs.Participants.{participants_at}
 use Rattle.ck_records.specs.DraftFields.{fields_at}
-use Rattle.ck_records.specs.Steps.{◌>>=◌}
+use Rattle.ck_records.specs.Sequence.{◌>>=◌}
 
 -- ---- the members, one by one; each is absent where it is null, but for the parent
 

@@ -1,4 +1,6 @@
 -- The JSON of a record in a reply.
+-- It is the one of "Record Dictionary" in the CloudKit Web Services Reference; the meaning of parent, share and forRecord, and the
+-- participants, are this project's own.
 use Rattle.std.specs.Prelude.{ℕ, Bool, true, List, [], ◌∷◌, map, fold, codes, decimal, Option, None, Some, option_map}
 use Rattle.serde_json.specs.Data.{Data, unsigned, number, string, array, object, Members, no_members, member, put}
 use Rattle.serde_json.specs.View.{items_of}

@@ -1,6 +1,6 @@
 // How a query compares a field with a value.
 ghost use Rattle.std.specs.Prelude.{◌≡◌};
-ghost use Rattle.ck_records.specs.Fits.{is_list, has_order, is_string, fits};
+ghost use Rattle.ck_records.specs.Fits.{is_list, is_comparable, is_string, fits};
 
 use field_values::Value;
 
@@ -36,7 +36,7 @@ pub fn fits(comparator: Comparator, value: &Value) -> bool
         Comparator::LessThan
         | Comparator::LessThanOrEquals
         | Comparator::GreaterThan
-        | Comparator::GreaterThanOrEquals => has_order(value),
+        | Comparator::GreaterThanOrEquals => is_comparable(value),
         Comparator::BeginsWith | Comparator::NotBeginsWith => is_string(value),
         Comparator::In
         | Comparator::NotIn
@@ -58,8 +58,8 @@ fn is_string(value: &Value) -> bool
     matches!(value, Value::Text(_))
 }
 
-fn has_order(value: &Value) -> bool
-    ensures { result ≡ has_order value.now }
+fn is_comparable(value: &Value) -> bool
+    ensures { result ≡ is_comparable value.now }
 {
     match value {
         Value::Int64(_) | Value::Timestamp(_) | Value::Text(_) | Value::Bytes(_) => true,

@@ -1,6 +1,6 @@
 // Records without the fields that nobody asked for.
 ghost use Rattle.std.specs.Prelude.{◌≡◌, IfOk, filter};
-ghost use Rattle.ck_records.specs.Cutting.{is_kept, cut};
+ghost use Rattle.ck_records.specs.Cutting.{is_asked_for, cut};
 
 use crate::copy::{copy_body, copy_field, copy_name, copy_stamp};
 use crate::{Field, Fields, Record};
@@ -26,18 +26,18 @@ pub fn cut(alloc: Global, record: &Record, keys: &[RecordName]) -> Result<Record
     })
 }
 
-fn is_kept(keys: &[RecordName], field: &Field) -> bool
-    ensures { result ≡ is_kept keys.now field.now }
+fn is_asked_for(keys: &[RecordName], field: &Field) -> bool
+    ensures { result ≡ is_asked_for keys.now field.now }
 {
     keys.iter().any(|key| key.as_bytes() == field.0.as_bytes())
 }
 
 fn cut_fields(alloc: Global, fields: &[Field], keys: &[RecordName]) -> Result<Fields, NoMemory>
-    ensures { IfOk result (λ kept. kept ≡ filter (is_kept keys.now) fields.now) }
+    ensures { IfOk result (λ kept. kept ≡ filter (is_asked_for keys.now) fields.now) }
 {
     let mut kept = Vec::new(alloc);
     for field in fields {
-        if is_kept(keys, field) {
+        if is_asked_for(keys, field) {
             kept.push(copy_field(alloc, field)?)?;
         }
     }

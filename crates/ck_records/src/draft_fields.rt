@@ -8,10 +8,9 @@ ghost use Rattle.field_values.specs.Results.{each_or_first_error};
 ghost use Rattle.ck_records.specs.DraftFields.{entries, is_named, wish_of, wishes_in, fields_at};
 ghost use Rattle.ck_records.specs.Meant.{IsWish, AreWishes};
 
-use crate::names::name_of;
 use crate::{RecordFault, RecordKey, Wish, Wishes};
 use ck_base::{Items, NoMemory, RecordName, UserName, ZoneKey};
-use field_values::{FieldFault, read_field};
+use field_values::{FieldFault, read_field, valid_name};
 use serde_json::{Map, Value as Json};
 use std::alloc::Global;
 
@@ -21,7 +20,7 @@ fn are_named(alloc: Global, members: &Map<String, Json>) -> Result<bool, NoMemor
         named ≡ list_all is_named (entries (members_view members.now.entries))) }
 {
     for (name, _) in members.iter() {
-        let name: Option<RecordName> = name_of(alloc, name.as_bytes())?;
+        let name: Option<RecordName> = valid_name(alloc, name.as_bytes())?;
         if name.is_none() {
             return Ok(false);
         }
@@ -40,7 +39,7 @@ fn read_wish(
         (wish_of here.now caller.now (name.now, view json.now)) }
     ensures meant { IfOk result IsWish }
 {
-    let Some(name) = name_of(alloc, name.as_bytes())? else {
+    let Some(name) = valid_name(alloc, name.as_bytes())? else {
         return Err(RecordFault::BadKey(RecordKey::Fields));
     };
     match read_field(alloc, json, here, caller) {

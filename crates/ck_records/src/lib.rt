@@ -1,6 +1,7 @@
 //! Records as a zone keeps them and as requests give them: their JSON, their size, and what is cut
 //! from them; and as plain data what a user sees of a zone, the filters of queries, and
-//! subscriptions.
+//! subscriptions. The meaning of `parent`, `share` and `forRecord`, and the JSON of participants,
+//! are this project's own.
 #![tactic(auto)]
 
 mod comparator;
@@ -17,6 +18,9 @@ mod names;
 mod participants;
 mod read;
 mod records;
+mod reply_record;
+mod shown;
+mod shown_share;
 mod size;
 mod subscription;
 #[cfg(test)]
@@ -29,11 +33,12 @@ pub use comparator::{Comparator, fits};
 pub use cutting::cut;
 pub use draft::{Draft, ForRoot, ParentWish, WantedList, Wish, Wishes};
 pub use draft_write::draft_json;
-pub use fault::{RecordFault, RecordKey};
+pub use fault::{RecordFault, RecordKey, ReplyRecordFault};
 pub use filter::{Filter, Filters};
-pub use laws::drafts_read_back;
+pub use laws::{drafts_read_back, records_read_back};
 pub use read::read_record;
-pub use records::{Body, Field, Fields, Record, Records, Stamp};
+pub use records::{Body, Field, Fields, Record, Rows, Stamp};
+pub use reply_record::read_reply_record;
 pub use size::record_size;
 pub use subscription::{Fires, SubKind, Subscription};
 pub use view::View;

@@ -10,11 +10,10 @@ ghost use Rattle.ck_records.specs.declared.fault.RecordKey.TheVariants.{Particip
 ghost use Rattle.ck_records.specs.Participants.{type_in, permission_in, may_have, user_data, wanted_of, entry_of, entries_of, participants_at};
 ghost use Rattle.ck_records.specs.Meant.{IsWanted};
 
-use crate::members::member;
-use crate::names::name_in;
 use crate::words::{EntryType, permission_named, type_named};
 use crate::{RecordFault, RecordKey, WantedList};
 use ck_base::Items;
+use field_values::{member, name_in};
 use serde_json::Value as Json;
 use share_records::{PartKind, Permission, Wanted};
 use std::alloc::Global;
@@ -75,7 +74,7 @@ fn read_wanted(alloc: Global, kind: PartKind, json: &Json) -> Result<Wanted, Rec
     }
 }
 
-fn read_entry(alloc: Global, json: &Json) -> Result<Option<Wanted>, RecordFault>
+pub(crate) fn read_entry(alloc: Global, json: &Json) -> Result<Option<Wanted>, RecordFault>
     ensures entry { IsToldUnless RecordFault.NoMemory result (entry_of (view json.now)) }
     ensures meant { IfOk result (λ entry. IfSome entry IsWanted) }
 {

@@ -1,20 +1,20 @@
 // Reading a record of a request.
-ghost use Rattle.std.specs.Prelude.{◌≡◌, IfOk, IfSome, option_map, option_and_then, codes};
+ghost use Rattle.std.specs.Prelude.{◌≡◌, IfOk, IfSome, IsUtf8, option_map, option_and_then, codes};
 ghost use Rattle.serde_json.specs.View.{view};
 ghost use Rattle.serde_json.specs.Find.{get, as_str};
 ghost use Rattle.ck_base.specs.Told.{IsToldUnless};
 ghost use Rattle.field_values.specs.Members.{unless_null as unless_none};
 ghost use Rattle.ck_records.specs.Words.{permission_named as named};
 ghost use Rattle.ck_records.specs.Reading.{tag_at, parent_of, parent_at, tag_in, root_at, public_at, is_object, draft_of};
-ghost use Rattle.ck_records.specs.Meant.{IsParent, IsRoot, IsMeantDraft};
+ghost use Rattle.ck_records.specs.Meant.{IsParentWish, IsForRoot, IsMeantDraft};
 
 use crate::draft_fields::read_fields;
-use crate::members::{member, unless_null};
-use crate::names::{name_in, read_name};
+use crate::names::read_name;
 use crate::participants::read_participants;
 use crate::words::permission_named;
 use crate::{Draft, ForRoot, ParentWish, RecordFault, RecordKey};
 use ck_base::{Text, UserName, ZoneKey};
+use field_values::{member, name_in, unless_null};
 use serde_json::Value as Json;
 use share_records::Permission;
 use std::alloc::Global;
@@ -58,8 +58,9 @@ pub fn read_record(
 }
 
 fn read_tag(alloc: Global, json: Option<&Json>) -> Result<Option<Text>, RecordFault>
-    ensures { IsToldUnless RecordFault.NoMemory result
+    ensures tag { IsToldUnless RecordFault.NoMemory result
         (tag_at (option_map (λ v. view v.now) json.entry)) }
+    ensures meant { IfOk result (λ tag. IfSome tag IsUtf8) }
 {
     match json {
         Some(Json::String(text)) => Ok(Some(Text::from_str(alloc, text.as_str())?)),
@@ -71,7 +72,7 @@ fn read_tag(alloc: Global, json: Option<&Json>) -> Result<Option<Text>, RecordFa
 fn parent_of(alloc: Global, json: Option<&Json>) -> Result<ParentWish, RecordFault>
     ensures parent { IsToldUnless RecordFault.NoMemory result
         (parent_of (option_map (λ v. view v.now) json.entry)) }
-    ensures meant { IfOk result IsParent }
+    ensures meant { IfOk result IsParentWish }
 {
     let Some(json) = json else {
         return Ok(ParentWish::Null);
@@ -85,7 +86,7 @@ fn parent_of(alloc: Global, json: Option<&Json>) -> Result<ParentWish, RecordFau
 fn read_parent(alloc: Global, json: Option<&Json>) -> Result<ParentWish, RecordFault>
     ensures parent { IsToldUnless RecordFault.NoMemory result
         (parent_at (option_map (λ v. view v.now) json.entry)) }
-    ensures meant { IfOk result IsParent }
+    ensures meant { IfOk result IsParentWish }
 {
     match json {
         Some(json) => parent_of(alloc, unless_null(json)),
@@ -96,7 +97,7 @@ fn read_parent(alloc: Global, json: Option<&Json>) -> Result<ParentWish, RecordF
 fn read_root(alloc: Global, json: Option<&Json>) -> Result<Option<ForRoot>, RecordFault>
     ensures root { IsToldUnless RecordFault.NoMemory result
         (root_at (option_map (λ v. view v.now) json.entry)) }
-    ensures meant { IfOk result (λ root. IfSome root IsRoot) }
+    ensures meant { IfOk result (λ root. IfSome root IsForRoot) }
 {
     let Some(json) = json else {
         return Ok(None);

@@ -43,4 +43,4 @@ pub struct Record {
 }
 
 /// Records, one after another.
-pub type Records = Items<Record>;
+pub type Rows = Items<Record>;

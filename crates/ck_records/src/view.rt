@@ -1,10 +1,10 @@
 // What a user sees of a zone.
-use crate::Records;
+use crate::Rows;
 
 /// What a user sees of a zone: whether it is here, and its records that the user sees, in ascending
 /// order of their names.
 #[derive(Debug, Drop)]
 pub struct View {
     pub here: bool,
-    pub rows: Records,
+    pub rows: Rows,
 }

@@ -22,3 +22,5 @@ pub mod Order
 pub mod OrderLaws
 -- reading what was written
 pub mod RoundTrip
+-- JSON that its text tells exactly
+pub mod Exact

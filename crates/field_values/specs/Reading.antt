@@ -1,5 +1,5 @@
 -- Which value the JSON of a field means, or the first fault. A field is an object with value and
--- perhaps type.
+-- perhaps type, as in "Record Field Dictionary" of the CloudKit Web Services Reference.
 use Rattle.std.specs.Prelude.{ℕ, Bool, not, ◌&&◌, if◌then◌else◌, List, codes, Option, Some, None, Result, Ok, Err}
 use Rattle.serde_json.specs.Data.{Data, null, boolean, number, string, array, object, Items}
 use Rattle.serde_json.specs.Find.{get, as_array}

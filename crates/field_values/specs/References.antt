@@ -1,4 +1,5 @@
 -- References in JSON: an object with recordName, and perhaps action and zoneID.
+-- They are those of "Reference Dictionary" in the CloudKit Web Services Reference.
 use Rattle.std.specs.Prelude.{ℕ, Bool, true, false, ◌&&◌, if◌then◌else◌, List, [], ◌∷◌, codes, bytes_eq, find, Option, Some, None, Result, Ok, Err}
 use Rattle.serde_json.specs.Data.{Data, null, boolean, number, string, array, object}
 use Rattle.ck_base.specs.declared.key.ZoneKey.{ZoneKey}

@@ -1,4 +1,5 @@
 -- The types of fields: their names, and the type that a value shows where none is given.
+-- They are those of "Record Field Dictionary" in the CloudKit Web Services Reference, but for those that are not built.
 use Rattle.std.specs.Prelude.{ℕ, Bool, true, ◌==◌, ◌||◌, length, if◌then◌else◌, List, [], ◌∷◌, ◌++◌, codes, bytes_eq, find, Option, Some, None, is_some, ok_or, Result, Ok, Err}
 use Rattle.std.specs.List.{list_any, list_all}
 use Rattle.std.specs.Option.{option_or, option_map_or}

@@ -1,4 +1,5 @@
 -- The JSON of a field with a value. Numbers are written as numbers, or as texts.
+-- It is that of "Record Field Dictionary" in the CloudKit Web Services Reference.
 use Rattle.std.specs.Prelude.{ℤ, Bool, if◌then◌else◌, codes}
 use Rattle.std.specs.Fmt.{signed_decimal}
 use Rattle.serde_json.specs.Data.{Data, number, string, array, object, member, no_members}

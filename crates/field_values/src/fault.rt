@@ -1,4 +1,5 @@
 // Why the JSON of a field is refused.
+use ck_base::NoMemory;
 use std::alloc::{AllocError, AllocFailed};
 
 /// Why JSON is no field. `NotAField`, `UnknownType` and `MixedList` are looked for in this order;
@@ -42,6 +43,17 @@ impl<T: Drop> From<AllocFailed<T>> for FieldFault {
     ghost from_gives = { λ _ e. e ≡ NoMemory };
 
     fn from(_e: AllocFailed<T>) -> Self {
+        FieldFault::NoMemory
+    }
+}
+
+impl From<NoMemory> for FieldFault {
+    ghost use Rattle.std.specs.Prelude.{◌≡◌};
+    ghost use Rattle.field_values.specs.declared.fault.FieldFault.TheVariants.{NoMemory as OutOfMemory};
+
+    ghost from_gives = { λ _ e. e ≡ OutOfMemory };
+
+    fn from(_e: NoMemory) -> Self {
         FieldFault::NoMemory
     }
 }

@@ -3,6 +3,7 @@
 ghost use Rattle.field_values.specs.Order.{value_cmp};
 ghost use Rattle.field_values.specs.OrderLaws.{IsLinear, IsByKinds};
 ghost use Rattle.field_values.specs.RoundTrip.{ReadsBack};
+ghost use Rattle.field_values.specs.Exact.{FieldsAreFlat};
 
 /// The order of values is total, only equal values stand at one place in it, and it goes by the
 /// kinds of values and then by what is in them.
@@ -15,4 +16,10 @@ pub fn values_are_ordered()
 /// for each value that some JSON means.
 pub fn fields_read_back()
     ensures { ReadsBack }
+{}
+
+/// What is written for a value has no float, and nests at most three deep where some JSON means the
+/// value.
+pub fn fields_are_flat()
+    ensures { FieldsAreFlat }
 {}

@@ -6,7 +6,7 @@ ghost use Rattle.field_values.specs.Members.{found, unless_null};
 use serde_json::Value as Json;
 
 /// The member of an object, where it is there and not null.
-pub(crate) fn member<'a>(json: &'a Json, name: &str) -> Option<&'a Json>
+pub fn member<'a>(json: &'a Json, name: &str) -> Option<&'a Json>
     ensures { option_map (λ v. view v.now) result ≡ found name.now (view json.now) }
 {
     match json.get(name) {
@@ -15,7 +15,8 @@ pub(crate) fn member<'a>(json: &'a Json, name: &str) -> Option<&'a Json>
     }
 }
 
-fn unless_null(value: &Json) -> Option<&Json>
+/// The value, where it is not null.
+pub fn unless_null(value: &Json) -> Option<&Json>
     ensures { option_map (λ v. view v.now) result ≡ unless_null (view value.now) }
 {
     match value {

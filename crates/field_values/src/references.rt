@@ -8,8 +8,9 @@ ghost use Rattle.field_values.specs.declared.fault.FieldFault.TheVariants.{Wrong
 ghost use Rattle.field_values.specs.References.{action_name, action_named, action_in, name_in, is_text, is_owner, is_here, reference_of};
 
 use crate::members::member;
+use crate::names::name_in;
 use crate::{Action, FieldFault, RefTo};
-use ck_base::{NameFault, RecordName, UserName, ZoneKey, record_name};
+use ck_base::{RecordName, UserName, ZoneKey};
 use serde_json::Value as Json;
 use std::alloc::Global;
 
@@ -84,15 +85,9 @@ fn read_name(alloc: Global, json: Option<&Json>) -> Result<RecordName, FieldFaul
         (ok_or (name_in (option_map (λ v. view v.now) json.entry)) WrongName) }
     ensures meant { IfOk result IsName }
 {
-    let Some(Json::String(text)) = json else {
-        return Err(FieldFault::WrongValue);
-    };
-    match record_name(alloc, text.as_bytes()) {
-        Ok(name) => Ok(name),
-        Err(NameFault::NoMemory) => Err(FieldFault::NoMemory),
-        Err(NameFault::Empty) => Err(FieldFault::WrongValue),
-        Err(NameFault::TooLong(_)) => Err(FieldFault::WrongValue),
-        Err(NameFault::BadChar(_)) => Err(FieldFault::WrongValue),
+    match name_in(alloc, json)? {
+        Some(name) => Ok(name),
+        None => Err(FieldFault::WrongValue),
     }
 }
 

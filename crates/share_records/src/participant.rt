@@ -11,8 +11,7 @@ pub enum PartKind {
     Public,
 }
 
-/// A participant of a share, as `participants` in "Record Dictionary" of the CloudKit Web Services
-/// Reference lists them.
+/// A participant of a share. Their form in JSON is this project's own.
 #[derive(Clone, Debug, PartialEq, Eq, Drop)]
 pub struct Participant {
     pub user: UserName,
@@ -22,7 +21,8 @@ pub struct Participant {
     pub accepted: bool,
 }
 
-/// The participants of a share, in ascending order of their names. The owner is none of them.
+/// The participants of a share, in ascending order of their names. A share that was made by the
+/// rules never lists the owner.
 pub type Participants = Items<Participant>;
 
 /// A participant that the owner wants a share to have.

@@ -1,4 +1,6 @@
 -- What the body of a request means, as its JSON is read.
+-- It is that of "Modifying Records", with "Record Operation Dictionary" and "Record Dictionary", in the CloudKit Web Services
+-- Reference.
 use Rattle.std.specs.Prelude.{ℕ, suc, ◌+◌, Bool, true, false, not, ◌&&◌, ◌||◌, nat_le, List, [], ◌∷◌, length, codes, sum_by, Option, None, Some, option_map, option_and_then, if◌then◌else◌}
 use Rattle.std.specs.List.{list_all, list_any}
 use Rattle.std.specs.Option.{option_map_or}

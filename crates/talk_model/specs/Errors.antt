@@ -1,4 +1,5 @@
 -- The errors of the service.
+-- Their codes are those of "Error Codes" in the CloudKit Web Services Reference.
 use Rattle.std.specs.Prelude.{ℕ, List, codes}
 use Rattle.zone_model.specs.declared.outcomes.OpFault.{OpFault}
 use Rattle.zone_model.specs.declared.outcomes.OpFault.TheVariants as fault

@@ -1,4 +1,6 @@
 -- Where the head of a request ends, and what it means.
+-- A head is that of RFC 9112, sections 2.1, 3 and 5, and its target one of "Composing Web Service Requests" in the CloudKit Web
+-- Services Reference.
 use Rattle.std.specs.Prelude.{ℕ, suc, Bool, false, ◌&&◌, ◌==◌, nat_le, List, [], ◌∷◌, ◌++◌, length, map, codes, Option, None, Some, option_map, option_and_then, if◌then◌else◌}
 use Rattle.std.specs.List.{list_all}
 use Rattle.std.specs.Char.{is_ascii_digit, to_ascii_lowercase}
@@ -42,13 +44,13 @@ target_front t =
 abbrev pub caller_of : Table → List ℕ → Option (List ℕ)
 caller_of t target = option_and_then (user_of_token t.users) (behind (target_front t) target)
 
--- 1 to 7 digits, of a number that a body may be long
+-- 1 to 7 digits, of a number that a body may be long (RFC 9110, section 8.6)
 abbrev pub length_of : List ℕ → Option ℕ
 length_of text =
     if nat_le 1 (length text) && (nat_le (length text) 7 && (list_all is_ascii_digit text && nat_le (digits_value 10 text) most_body))
     then Some (digits_value 10 text) else None
 
--- the field's name, without regard to case
+-- the field's name, without regard to case (RFC 9110, section 5.1)
 abbrev pub is_named : List ℕ → List ℕ × List ℕ → Bool
 is_named name field = bytes_eq (map to_ascii_lowercase field.0) name
 

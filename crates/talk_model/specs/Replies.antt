@@ -1,4 +1,6 @@
 -- What is replied to a request, as JSON and as bytes.
+-- The body is the response of "Modifying Records", with "Record Dictionary" and "Record Fetch Error Dictionary", in the CloudKit
+-- Web Services Reference, and the bytes those of a response in RFC 9112, section 4.
 use Rattle.std.specs.Prelude.{ℕ, false, List, [], ◌∷◌, ◌++◌, length, fold, codes, decimal}
 use Rattle.serde_json.specs.Data.{Data, unsigned, number, string, array, object, Items, no_items, item, Members, no_members, member, put}
 use Rattle.serde_json.specs.Written.{compact_text}

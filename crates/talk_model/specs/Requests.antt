@@ -1,4 +1,5 @@
 -- Which bytes are a request, and which can be none.
+-- A request is a head and the body whose length it states (RFC 9112, section 6.2), as JSON (RFC 8259).
 use Rattle.std.specs.Prelude.{◌≡◌, ℕ, ◌+◌, ◌<◌, ◌≤◌, List, [], ◌++◌, length, take, drop, None, Some, IsUtf8}
 use Rattle.httparse.specs.Grammar.{RequestHead, ReadsRequest}
 use Rattle.serde_json.specs.Data.{Data}

@@ -5,7 +5,8 @@ use Rattle.std.specs.Ordering.{nat_cmp, is_lt, is_eq, ordering_reverse}
 use Rattle.std.specs.Cmp.Lexicographic.{slice_cmp, nat_list_cmp_total, same_text}
 use Rattle.std.proofs.lemmas.Bool.{false_from_ne_true, both_ways, and_from, eq-eqb}
 use Rattle.std.proofs.lemmas.Map.Text.{is_eq-slice_cmp}
-use Rattle.zone_model.specs.Names.{same, is_before}
+use Rattle.ck_base.specs.Order.{is_before}
+use Rattle.zone_model.specs.Names.{same}
 
 pub same-true : (x y : List ℕ) → same x y ≡ true → x ≡ y
 same-true x y e = same_text x y (sym e)

@@ -12,7 +12,8 @@ use Rattle.zone_model.specs.declared.records.Record.{Record}
 use Rattle.zone_model.specs.declared.commits.Write.{Write}
 use Rattle.zone_model.specs.declared.commits.Write.TheVariants.{Put}
 use Rattle.zone_model.specs.declared.commits.Commit.{Commit}
-use Rattle.zone_model.specs.Names.{same, same_key, is_before}
+use Rattle.ck_base.specs.Order.{is_before}
+use Rattle.zone_model.specs.Names.{same, same_key}
 use Rattle.zone_model.specs.Zones.{is_default, written_name, writes_in, writes_at, with_record, after_write, records_at, is_there, puts_at}
 use Rattle.zone_model.specs.Views.{nowhere, view_of}
 use Rattle.zone_model.proofs.NameLemmas.{same-true, same-refl, three_ways}

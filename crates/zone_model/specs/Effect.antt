@@ -1,4 +1,5 @@
 -- How an operation is judged by what is seen before it, and what it does.
+-- An operation is one of "Record Operation Dictionary" in the CloudKit Web Services Reference; its fault EXISTS is one of "Error Codes".
 use Rattle.std.specs.Prelude.{ℕ, suc, Bool, List, [], ◌∷◌, None, if◌then◌else◌}
 use Rattle.ck_base.specs.declared.key.ZoneKey.{ZoneKey}
 use Rattle.ck_base.specs.declared.scope.Scope.{Scope}

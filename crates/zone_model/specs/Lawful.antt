@@ -7,18 +7,13 @@ use Rattle.zone_model.specs.declared.commits.Write.{Write}
 use Rattle.zone_model.specs.declared.commits.Write.TheVariants.{Put}
 use Rattle.zone_model.specs.declared.commits.Commit.{Commit}
 use Rattle.zone_model.specs.declared.events.Event.{Event}
-use Rattle.zone_model.specs.Names.{is_before}
+use Rattle.ck_base.specs.Order.{are_ascending}
 use Rattle.zone_model.specs.Zones.{is_default, written_name, writes_in, puts_at}
 use Rattle.zone_model.specs.Events.{origin_of, commits_of, log_of, own}
 
 -- a put has the next tag
 abbrev pub is_lawful_write : List Commit → ZoneKey → Write → Bool
 is_lawful_write log key (Put row) = row.tag == suc (puts_at log key row.name)
-
--- names ascend, so no two are the same
-abbrev pub are_ascending : List (List ℕ) → Bool
-are_ascending [] = true
-are_ascending (x ∷ xs) = list_all (is_before x) xs && are_ascending xs
 
 -- the commit may follow the log: its zone is a default one, which is always there, and it writes something, each name once and in order
 abbrev pub is_lawful : List Commit → Commit → Bool

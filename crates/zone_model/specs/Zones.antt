@@ -8,7 +8,8 @@ use Rattle.zone_model.specs.declared.commits.Write.TheVariants.{Put}
 use Rattle.zone_model.specs.declared.commits.Act.{Act}
 use Rattle.zone_model.specs.declared.commits.Act.TheVariants.{Writes}
 use Rattle.zone_model.specs.declared.commits.Commit.{Commit}
-use Rattle.zone_model.specs.Names.{same, same_key, is_before}
+use Rattle.ck_base.specs.Order.{is_before}
+use Rattle.zone_model.specs.Names.{same, same_key}
 
 -- the zone that each user has from the start
 abbrev pub default_zone : List ℕ

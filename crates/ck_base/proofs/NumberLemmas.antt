@@ -1,13 +1,14 @@
 -- What std's `parse` reads as a u64, as a test of the digits.
-use Rattle.std.proofs.Common.{◌≡◌, ℕ, ◌^◌, ◌<◌, Bool, true, ◌&&◌, nat_lt, List, length, refl, arith, inl, inr}
+use Rattle.std.proofs.Common.{◌≡◌, ℕ, ◌^◌, ◌<◌, Bool, true, ◌&&◌, nat_lt, List, [], ◌∷◌, length, get_or, decimal, Some, ◌≢◌, refl, sym, ap, subst, ◌∙◌, arith, inl, inr}
 use Rattle.std.specs.Prelude.{Result, Ok, Err, None}
 use Rattle.std.specs.Result.{OkIff, result_ok}
 use Rattle.std.specs.Str.{all_ascii_digits}
 use Rattle.std.specs.Str.Parse.{ParsesUnsigned, IsNumeral, digits_value, without_leading_plus}
 use Rattle.std.proofs.lemmas.Bool.Decides.{nat_tests}
 use Rattle.std.proofs.lemmas.Bool.{and_parts, cases_Bool, ltb-true}
-use Rattle.std.proofs.lemmas.Str.Parse.{IsNumeralModel, numerals_by_value, tells_all_ascii_digits}
-use Rattle.ck_command.specs.Words.{digits_number, number_of}
+use Rattle.std.proofs.lemmas.Fmt.{decimal_is_IsNumeral}
+use Rattle.std.proofs.lemmas.Str.Parse.{without_leading_plus_none, IsNumeralModel, numerals_by_value, tells_all_ascii_digits}
+use Rattle.ck_base.specs.Numbers.{digits_number, number_of}
 
 own : IsNumeralModel (λ ds. all_ascii_digits ds ≡ true) (digits_value 10)
 own = numerals_by_value _ tells_all_ascii_digits
@@ -35,3 +36,16 @@ parsed_digits ds (Err e) h = elim (cases_Bool (is_number ds)) as (λ _. None ≡
 
 pub parsed_number : {E : Type 0} (word : List ℕ) (r : Result ℕ E) → ParsesUnsigned 64 10 word r → result_ok r ≡ number_of word
 parsed_number word r h = parsed_digits (without_leading_plus word) r h
+
+no_plus : (bs : List ℕ) → all_ascii_digits bs ≡ true → get_or bs 0 0 ≢ 43
+no_plus [] digits plus = absurd (cc plus)
+no_plus (b ∷ bs) digits plus = absurd (cc (ap (λ x. all_ascii_digits (x ∷ bs)) (sym plus) ∙ digits))
+
+-- the digits of a number are that number
+pub number-decimal : (n : ℕ) → n < 2 ^ 64 → number_of (decimal n) ≡ Some n
+number-decimal n fits =
+    let (numeral, value) = decimal_is_IsNumeral n fits in
+    let digits = own.from (decimal n) numeral.1 in
+    let below : digits_value 10 (decimal n) < 2 ^ 64 = subst (λ m. m < 2 ^ 64) (sym value) fits in
+    let tested : is_number (decimal n) ≡ true = is_number_of (decimal n) numeral.0 digits below in
+    ap digits_number (without_leading_plus_none (decimal n) (no_plus (decimal n) digits)) ∙ rw (tested, value) refl
