@@ -1,0 +1,158 @@
+// Whole requests from a source.
+ghost use Rattle.std.specs.Prelude.{◌≡◌, ◌≤◌, ◌+◌, ◌<◌, length, Ok, IfOk, OnOk, IfErr, OnErr, IsErrOf};
+ghost use Rattle.ck_devices.specs.Causes.{Rose};
+ghost use Rattle.http_front.specs.Reading.{Extends, TakesRequest, IsFault, IsReadError};
+ghost use Rattle.http_front.specs.Scans.{IsFound};
+ghost use Rattle.http_front.specs.Taking.{StopsHead, IsLongEnough, TakesBehind};
+
+use crate::head::HeadRead;
+use crate::look::{Look, look_on};
+use crate::scan::UNSEEN;
+use crate::{Buffer, FrontFault, Request};
+use ck_base::Bytes;
+use ck_devices::Source;
+use std::alloc::Global;
+
+// Reads a further piece of a head, or says why there is none.
+fn fill_head<S: Source>(source: &mut S, buffer: &mut Buffer) -> Result<(), FrontFault>
+    ensures extends { Extends (S.left source.old) (S.left source.new) buffer.old buffer.new }
+    ensures grown { OnOk result (length buffer.old < length buffer.new) }
+    ensures same { OnErr result (buffer.new ≡ buffer.old) }
+    ensures stops { IfErr result (λ fault. StopsHead fault (S.left source.new) buffer.new) }
+    ensures later { S.fault_count source.old ≤ S.fault_count source.new }
+    ensures cause { IsErrOf result FrontFault.ReadFault → Rose (S.fault_count source.old) (S.fault_count source.new) }
+{
+    if buffer.fill(source)? > 0 {
+        Ok(())
+    } else if buffer.as_slice().is_empty() {
+        Err(FrontFault::Ended)
+    } else {
+        Err(FrontFault::Cut)
+    }
+}
+
+// Reads until a head stands at the front.
+#[tactic(auto, using(crate::proofs::ReadingLemmas::extends_on))]
+fn read_head<S: Source>(source: &mut S, buffer: &mut Buffer) -> Result<HeadRead, FrontFault>
+    ensures extends { Extends (S.left source.old) (S.left source.new) buffer.old buffer.new }
+    ensures head { IfOk result (λ head. IsFound buffer.new head) }
+    ensures fault { IfErr result (λ fault. IsFault fault (S.left source.new) buffer.new) }
+    ensures later { S.fault_count source.old ≤ S.fault_count source.new }
+    ensures cause { IsErrOf result FrontFault.ReadFault → Rose (S.fault_count source.old) (S.fault_count source.new) }
+{
+    let mut scan = UNSEEN;
+    loop {
+        match look_on(buffer.as_slice(), scan)? {
+            Look::Head(head) => return Ok(head),
+            Look::More(more) => scan = more,
+        }
+        fill_head(source, buffer)?;
+    }
+}
+
+// Reads until the buffer holds so many bytes, or the source ends.
+#[tactic(auto, using(crate::proofs::ReadingLemmas::extends_on))]
+fn read_to_length<S: Source>(
+    source: &mut S,
+    buffer: &mut Buffer,
+    wanted: usize,
+) -> Result<bool, FrontFault>
+    ensures extends { Extends (S.left source.old) (S.left source.new) buffer.old buffer.new }
+    ensures whole { IfOk result (λ whole. IsLongEnough (S.left source.new) buffer.new wanted whole) }
+    ensures short { IfErr result (λ _. length buffer.new < wanted) }
+    ensures later { S.fault_count source.old ≤ S.fault_count source.new }
+    ensures cause { IsErrOf result FrontFault.ReadFault → Rose (S.fault_count source.old) (S.fault_count source.new) }
+    ensures read { IfErr result IsReadError }
+{
+    while buffer.as_slice().len() < wanted {
+        if buffer.fill(source)? == 0 {
+            return Ok(false);
+        }
+    }
+    Ok(true)
+}
+
+// Takes the request whose head was read, and whose body has come.
+fn take_request(
+    alloc: Global,
+    buffer: &mut Buffer,
+    head: HeadRead,
+    size: usize,
+) -> Result<Request, FrontFault>
+    requires found { IsFound buffer.old head }
+    requires stated { head.length ≡ Ok size }
+    requires whole { head.len + size ≤ length buffer.old }
+    ensures { TakesBehind buffer.old buffer.new result }
+{
+    let bytes = buffer.as_slice();
+    let method = Bytes::from_slice(alloc, head.method.of(bytes))?;
+    let target = Bytes::from_slice(alloc, head.target.of(bytes))?;
+    let body = Bytes::from_slice(alloc, &bytes[head.len..head.len + size])?;
+    buffer.drop_front(head.len + size);
+    Ok(Request {
+        method,
+        target,
+        close: head.close,
+        body,
+    })
+}
+
+// Reads the body behind a head that was read.
+fn read_body<S: Source>(
+    source: &mut S,
+    buffer: &mut Buffer,
+    head: HeadRead,
+    size: usize,
+) -> Result<(), FrontFault>
+    requires found { IsFound buffer.old head }
+    requires stated { head.length ≡ Ok size }
+    ensures extends { Extends (S.left source.old) (S.left source.new) buffer.old buffer.new }
+    ensures found { IsFound buffer.new head }
+    ensures whole { OnOk result (head.len + size ≤ length buffer.new) }
+    ensures fault { IfErr result (λ fault. IsFault fault (S.left source.new) buffer.new) }
+    ensures later { S.fault_count source.old ≤ S.fault_count source.new }
+    ensures cause { IsErrOf result FrontFault.ReadFault → Rose (S.fault_count source.old) (S.fault_count source.new) }
+{
+    if read_to_length(source, buffer, head.len + size)? {
+        Ok(())
+    } else {
+        Err(FrontFault::Cut)
+    }
+}
+
+// Reads until a whole request stands at the front, and says how long its body is.
+#[tactic(auto, using(crate::proofs::ReadingLemmas::extends_on))]
+fn read_whole<S: Source>(
+    source: &mut S,
+    buffer: &mut Buffer,
+) -> Result<(HeadRead, usize), FrontFault>
+    ensures extends { Extends (S.left source.old) (S.left source.new) buffer.old buffer.new }
+    ensures whole { IfOk result (λ whole. IsFound buffer.new whole.0 × (whole.0.length ≡ Ok whole.1) × (whole.0.len + whole.1 ≤ length buffer.new)) }
+    ensures fault { IfErr result (λ fault. IsFault fault (S.left source.new) buffer.new) }
+    ensures later { S.fault_count source.old ≤ S.fault_count source.new }
+    ensures cause { IsErrOf result FrontFault.ReadFault → Rose (S.fault_count source.old) (S.fault_count source.new) }
+{
+    let head = read_head(source, buffer)?;
+    let size = head.length?;
+    read_body(source, buffer, head, size)?;
+    Ok((head, size))
+}
+
+/// Takes the next whole request, as RFC 9112, section 6.3 finds the end of its body. The buffer
+/// keeps what was read beyond it. After a fault the buffer holds what it held before, and then all
+/// that was read.
+#[tactic(auto, using(crate::proofs::ReadingLemmas::takes_behind))]
+pub fn read_request<S: Source>(
+    alloc: Global,
+    source: &mut S,
+    buffer: &mut Buffer,
+) -> Result<Request, FrontFault>
+    ensures request { IfOk result (λ r. TakesRequest (S.left source.old) (S.left source.new) buffer.old buffer.new r) }
+    ensures kept { OnErr result (Extends (S.left source.old) (S.left source.new) buffer.old buffer.new) }
+    ensures fault { IfErr result (λ fault. IsFault fault (S.left source.new) buffer.new) }
+    ensures later { S.fault_count source.old ≤ S.fault_count source.new }
+    ensures cause { IsErrOf result FrontFault.ReadFault → Rose (S.fault_count source.old) (S.fault_count source.new) }
+{
+    let (head, size) = read_whole(source, buffer)?;
+    take_request(alloc, buffer, head, size)
+}

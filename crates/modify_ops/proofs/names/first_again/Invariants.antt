@@ -1,0 +1,6 @@
+use Rattle.std.proofs.Common.{◌≡◌, take, drop}
+use Rattle.modify_ops.specs.Names.{first_again, named_again}
+use Rattle.modify_ops.proofs.names.first_again.Given as goal
+
+abbrev pub invariant-loop-place : goal.invariant-loop-place
+invariant-loop-place l = named_again l.ops ≡ first_again (take l.place l.ops) (drop l.place l.ops)

@@ -1,0 +1,12 @@
+-- the words of operations
+pub mod Kinds
+-- which operation JSON means
+pub mod Forms
+-- which operation names a record or a root again
+pub mod Names
+-- which operations the JSON of a request means, or the first fault
+pub mod Reading
+-- the JSON of operations
+pub mod Writing
+-- the operations that some JSON means, and reading what was written
+pub mod Meant
