@@ -1,0 +1,2 @@
+-- reading what was written for calls
+pub mod ReadsBackLemmas

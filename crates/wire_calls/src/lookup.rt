@@ -1,0 +1,68 @@
+// Reading the call for records by their names.
+ghost use Rattle.std.specs.Prelude.{◌≡◌, ◌≤◌, IfOk, IfSome, OnOk, Ok, length, option_map};
+ghost use Rattle.serde_json.specs.View.{view};
+ghost use Rattle.ck_base.specs.Told.{IsToldUnless};
+ghost use Rattle.wire_calls.specs.Meant.{IsMeantLookup};
+ghost use Rattle.wire_calls.specs.Calls.{lookup_of};
+ghost use Rattle.wire_calls.specs.Members.{limited, limited_if};
+
+use crate::lists::{keys_at, records_at};
+use crate::members::flag_at;
+use crate::zones::zone_at;
+use crate::{BadCall, CallKey, LookupCall};
+use ck_base::limits::LIST_ITEMS;
+use ck_base::{Database, RecordNames, UserName};
+use field_values::member;
+use serde_json::Value as Json;
+use std::alloc::Global;
+
+fn limited(names: &RecordNames) -> Result<(), BadCall>
+    ensures limit { result ≡ limited names.now (Ok tt) }
+    ensures count { OnOk result (length names.now ≤ 200) }
+{
+    if names.len() > LIST_ITEMS {
+        return Err(BadCall::TooMany(names.len() as u64));
+    }
+    Ok(())
+}
+
+fn limited_if(names: &Option<RecordNames>) -> Result<(), BadCall>
+    ensures limit { result ≡ limited_if names.now (Ok tt) }
+    ensures count { OnOk result (IfSome names.now (λ names. length names ≤ 200)) }
+{
+    match names {
+        Some(names) => limited(names),
+        None => Ok(()),
+    }
+}
+
+/// The call for records by their names, as its body has it.
+pub(crate) fn read_lookup(
+    alloc: Global,
+    database: Database,
+    caller: &UserName,
+    json: &Json,
+) -> Result<LookupCall, BadCall>
+    ensures call { IsToldUnless BadCall.NoMemory result
+        (lookup_of database caller.now (view json.now)) }
+    ensures meant { IfOk result IsMeantLookup }
+{
+    let zone = zone_at(alloc, caller, member(json, "zoneID"))?;
+    let numbers_as_strings = flag_at(
+        CallKey::NumbersAsStrings,
+        false,
+        member(json, "numbersAsStrings"),
+    )?;
+    let desired_keys = keys_at(alloc, member(json, "desiredKeys"))?;
+    let names = records_at(alloc, member(json, "records"))?;
+    limited_if(&desired_keys)?;
+    limited(&names)?;
+    Ok(LookupCall {
+        caller: caller.clone()?,
+        database,
+        zone,
+        numbers_as_strings,
+        desired_keys,
+        names,
+    })
+}
