@@ -1,53 +1,56 @@
--- What an ask is given to see, what it answers, and what it makes, at the history that it finds. They speak of parts that
--- may be asked: an operation is judged by the view alone, also where the zone is not here.
-use Rattle.std.specs.Prelude.{ℕ, suc, Bool, true, false, List, [], ◌∷◌, ◌++◌, length}
+-- What an ask is given to see, what it answers, and what it makes, at the history that it finds.
+use Rattle.std.specs.Prelude.{ℕ, suc, Bool, true, false, List, [], ◌∷◌, length, map, if◌then◌else◌}
+use Rattle.ck_base.specs.Names.{lock_of_names}
 use Rattle.ck_base.specs.declared.key.ZoneKey.{ZoneKey}
 use Rattle.ck_base.specs.declared.scope.Scope.{Scope}
 use Rattle.zone_model.specs.declared.operations.Op.{Op}
 use Rattle.zone_model.specs.declared.commits.Commit.{Commit}
-use Rattle.zone_model.specs.declared.outcomes.Outcome.{Outcome}
 use Rattle.zone_model.specs.declared.events.Event.{Event}
 use Rattle.zone_model.specs.declared.events.Event.TheVariants.{Made}
+use Rattle.zone_model.specs.Records.{record_at}
+use Rattle.zone_model.specs.Views.{view_of}
+use Rattle.zone_model.specs.Requests.{Caller}
+use Rattle.zone_model.specs.Modifying.{commits_of_request}
 use Rattle.zone_model.specs.Events.{log_of, own}
-use Rattle.zone_model.specs.Effect.{Asker, OpSight, op_sight, outcome_of, commits_made}
+use Rattle.modify_ops.specs.Drawing.{named_ops, guids_of}
 use Rattle.board_model.specs.declared.parts.Part.{Part}
-use Rattle.board_model.specs.declared.parts.Part.TheVariants.{Modify}
+use Rattle.board_model.specs.declared.parts.Part.TheVariants.{Modify, Lookup}
 use Rattle.board_model.specs.declared.answers.Answer.{Answer}
-use Rattle.board_model.specs.declared.answers.Answer.TheVariants.{Modify as ModifyAnswer}
+use Rattle.board_model.specs.declared.answers.Answer.TheVariants.{Modify as ModifyAnswer, Lookup as LookupAnswer, NoZone}
+use Rattle.board_model.specs.Sights.{Sight, modifying, viewing, op_sight, sights_of, outcomes_by}
 
--- what an answer may depend on: before each operation of a modify, the view and the puts of its name
-pub data Sight : Type 0 where
-  before_each : List OpSight → Sight
+abbrev pub caller_in : List ℕ → Scope → ZoneKey → Caller
+caller_in user scope key = record { user = user; scope = scope; key = key }
 
--- The operations of a request on a default zone are judged and done one after another.
-module _ (asker : Asker) (scope : Scope) (key : ZoneKey) where
-  abbrev pub sights : List Commit → List Op → List OpSight
-  sights log [] = []
-  sights log (op ∷ ops) =
-      let s = op_sight log asker.user scope key op in
-      s ∷ sights (log ++ commits_made asker key s op) ops
+-- the GUIDs that words make for the shares of a zone
+abbrev pub guids_at : ZoneKey → List Op → List (List ℕ) → List (List ℕ)
+guids_at key ops words = guids_of (lock_of_names key.owner key.zone) ops words
 
-  abbrev pub commits_of_ops : List Commit → List Op → List Commit
-  commits_of_ops log [] = []
-  commits_of_ops log (op ∷ ops) =
-      let made = commits_made asker key (op_sight log asker.user scope key op) op in
-      made ++ commits_of_ops (log ++ made) ops
-
--- an outcome for each operation, by what was seen before it
-abbrev pub outcomes_of : Asker → List OpSight → List Op → List Outcome
-outcomes_of asker [] ops = []
-outcomes_of asker (s ∷ ss) [] = []
-outcomes_of asker (s ∷ ss) (op ∷ ops) = outcome_of asker s op ∷ outcomes_of asker ss ops
-
+-- what an ask is given to see
 abbrev pub sight : List Event → Part → Sight
-sight events (Modify user scope key atomic ops moment) = before_each (sights (record { user = user; moment = moment }) scope key (log_of events) ops)
+sight events (Modify user scope key atomic ops moment words) =
+    let caller = caller_in user scope key in
+    let named = named_ops ops words in
+    modifying (op_sight caller moment (log_of events) named) (sights_of caller moment (log_of events) named (guids_at key ops words))
+sight events (Lookup user scope key names) = viewing (view_of (log_of events) user scope key)
 
+-- what it answers
 abbrev pub answer : Sight → Part → Answer
-answer (before_each ss) (Modify user scope key atomic ops moment) = ModifyAnswer (outcomes_of (record { user = user; moment = moment }) ss ops)
+answer (modifying before each) (Modify user scope key atomic ops moment words) =
+    if before.view.here
+    then ModifyAnswer (outcomes_by (caller_in user scope key) moment atomic before each (named_ops ops words) (guids_at key ops words))
+    else NoZone
+answer (modifying before each) (Lookup user scope key names) = NoZone
+answer (viewing view) (Modify user scope key atomic ops moment words) = NoZone
+answer (viewing view) (Lookup user scope key names) = if view.here then LookupAnswer (map (record_at view.rows) names) else NoZone
 
--- the commits that an ask makes
+-- the commits that it makes
 abbrev pub commits_by : List Event → Part → List Commit
-commits_by events (Modify user scope key atomic ops moment) = commits_of_ops (record { user = user; moment = moment }) scope key (log_of events) ops
+commits_by events (Modify user scope key atomic ops moment words) =
+    if (view_of (log_of events) user scope key).here
+    then commits_of_request (caller_in user scope key) moment (log_of events) atomic (named_ops ops words) (guids_at key ops words)
+    else []
+commits_by events (Lookup user scope key names) = []
 
 -- the event of these commits, or none
 abbrev pub event_of : ℕ → List Event → List Commit → List Event

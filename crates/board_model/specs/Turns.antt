@@ -1,9 +1,9 @@
 -- One turn of a board at a lock.
-use Rattle.std.specs.Prelude.{◌≡◌, ◌≢◌, ◌⊎◌, ℕ, true, List, [], ◌++◌, length, Option, None, Some}
+use Rattle.std.specs.Prelude.{◌≡◌, ◌≢◌, ◌⊎◌, ℕ, List, [], ◌++◌, length, Option, None, Some}
 use Rattle.zone_model.specs.declared.events.Event.{Event}
 use Rattle.zone_model.specs.Histories.{Histories}
 use Rattle.zone_model.specs.Events.{own}
-use Rattle.zone_model.specs.Lawful.{is_legal}
+use Rattle.zone_model.specs.Legal.{IsLegal}
 use Rattle.board_model.specs.declared.parts.Part.{Part}
 use Rattle.board_model.specs.declared.answers.Answered.{Answered}
 use Rattle.board_model.specs.Asks.{sight, answer, made, makes, commits_by}
@@ -22,7 +22,7 @@ pub record HadTurn (alone : Type 0) (seats_old seats_new : ℕ → Option ℕ) (
   pub stays : (n : ℕ) → seats_old lock ≡ Some n → n ≡ seat
   pub fresh : seats_old lock ≡ None → own seat base ≡ []
   pub new_is : new lock ≡ base ++ added
-  pub legal : is_legal lock (new lock) ≡ true
+  pub legal : IsLegal lock (new lock)
   pub others : (k : ℕ) → k ≢ lock → new k ≡ old k
   pub other_seats : (k : ℕ) → k ≢ lock → seats_new k ≡ seats_old k
 

@@ -1,4 +1,6 @@
 // What a lock answers.
+use ck_base::Items;
+use ck_records::Record;
 use zone_model::Outcomes;
 
 /// The answer to a part.
@@ -6,6 +8,10 @@ use zone_model::Outcomes;
 pub enum Answer {
     /// An outcome for each operation.
     Modify(Outcomes),
+    /// For each name its record, if the user sees one.
+    Lookup(Items<Option<Record>>),
+    /// The user sees no such zone.
+    NoZone,
 }
 
 /// What an ask answers: it was taken at the first `len` events of the lock's history, and `event`

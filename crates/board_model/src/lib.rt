@@ -6,4 +6,4 @@ mod answers;
 mod parts;
 
 pub use answers::{Answer, Answered};
-pub use parts::Part;
+pub use parts::{Part, Word};

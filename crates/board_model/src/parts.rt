@@ -1,6 +1,9 @@
 // What a lock is asked.
-use ck_base::{Scope, UserName, ZoneKey};
+use ck_base::{Items, RecordNames, Scope, UserName, ZoneKey};
 use zone_model::Ops;
+
+/// A random word.
+pub type Word = [u8; 16];
 
 /// A part of a request that concerns one lock. It is answered in one step.
 #[derive(Debug, Drop)]
@@ -10,10 +13,18 @@ pub enum Part {
         user: UserName,
         scope: Scope,
         key: ZoneKey,
-        /// All of the operations are to be done or none. It is without effect on a default zone,
-        /// and no other zone is built.
+        /// All of the operations are to be done or none. It is without effect on a default zone.
         atomic: bool,
         ops: Ops,
         moment: u64,
+        /// A word for each operation that draws one, in order.
+        words: Items<Word>,
+    },
+    /// The records of these names in a zone, for a user in a scope.
+    Lookup {
+        user: UserName,
+        scope: Scope,
+        key: ZoneKey,
+        names: RecordNames,
     },
 }

@@ -2,7 +2,7 @@
 use Rattle.std.specs.Prelude.{◌≡◌, ℕ, List, Option, None, Some, ⊤, option_and_then, IsSome}
 use Rattle.std.specs.Result.{result_ok}
 use Rattle.ck_devices.specs.Files.{Files, file}
-use Rattle.ck_server.specs.Users.{Table, table_of}
+use Rattle.http_front.specs.Users.{Table, table_of}
 use Rattle.ck_command.specs.Words.{Asked}
 
 -- the table of users that the file of that name holds

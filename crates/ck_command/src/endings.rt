@@ -5,9 +5,9 @@ ghost use Rattle.ck_devices.specs.Causes.{HasCause};
 ghost use Rattle.ck_command.specs.Endings.{status_of};
 ghost use Rattle.ck_command.specs.Lines.{name_of, line, line_of, AppendsFront, Tells};
 
+use crate::writing::write_whole;
 use ck_devices::{Failed, Sink};
 use ck_server::End;
-use ck_server::writing::write_whole;
 
 /// How a run ends.
 #[derive(Clone, Copy, Debug)]

@@ -1,7 +1,7 @@
 //! One run of the server over the devices that it is handed.
 ghost use Rattle.std.specs.Prelude.{◌≡◌, ◌≤◌, ◌⊎◌, ◌↔◌, None, OnOk, IfOk, IfErr};
 ghost use Rattle.ck_devices.specs.Causes.{Rose};
-ghost use Rattle.ck_devices.specs.Runs.{GivesInTurn};
+ghost use Rattle.talk_model.specs.Given.{Draws, GaveFor};
 ghost use Rattle.ck_command.specs.Words.{asked_of};
 ghost use Rattle.ck_command.specs.UsersFile.{HoldsUsers};
 ghost use Rattle.ck_command.specs.Endings.{ending_of, MayRefuse, MayServe, MayEnd};
@@ -12,8 +12,10 @@ use crate::endings::Ending;
 use crate::words::read_words;
 use ck_base::Text;
 use ck_devices::{Clock, FixedClock, Shelf, ShelfFault, Sink, Source, Words};
-use ck_server::{End, Solo, TalkFaultKind, Users, UsersFault, converse, read_users};
+use ck_server::{End, TalkFaultKind, converse};
+use http_front::{Users, UsersFault, read_users};
 use std::alloc::Global;
+use zone_board::Solo;
 
 // Reads the table of users from its file.
 fn load_users<'a, F: Shelf>(
@@ -64,7 +66,7 @@ fn answer_all<'a, S: Source, W: Sink, C: Clock, R: Words>(
     words: &mut R,
 ) -> Ending<'a>
     ensures served { MayServe result }
-    ensures serves { Serves users.now (λ moments. GivesInTurn C.gives clock.old moments clock.new)
+    ensures serves { Serves users.now (GaveFor C.gives (Draws R.gives R.fault_count) clock.old clock.new words.old words.new)
         (S.left source.old) (S.left source.new) (W.held sink.old) (W.held sink.new) result }
     ensures cause { result ≡ Ending.DeviceFault → Rose (S.fault_count source.old) (S.fault_count source.new) ⊎ Rose (W.fault_count sink.old) (W.fault_count sink.new) }
 {
@@ -90,7 +92,7 @@ fn run<'a, F: Shelf, S: Source, W: Sink, C: Clock, R: Words>(
     words: &mut R,
 ) -> Ending<'a>
     ensures may_end { MayEnd (F.files shelf.old) (asked_of args.now) result }
-    ensures converses { Converses C.gives clock.old clock.new (S.left source.old) (S.left source.new) (W.held sink.old) (W.held sink.new)
+    ensures converses { Converses C.gives (Draws R.gives R.fault_count) clock.old clock.new words.old words.new (S.left source.old) (S.left source.new) (W.held sink.old) (W.held sink.new)
         (F.files shelf.old) (asked_of args.now) result }
     ensures cause { result ≡ Ending.DeviceFault → Rose (F.fault_count shelf.old) (F.fault_count shelf.new)
         ⊎ (Rose (S.fault_count source.old) (S.fault_count source.new) ⊎ Rose (W.fault_count sink.old) (W.fault_count sink.new)) }
@@ -130,7 +132,7 @@ pub fn run_command<F: Shelf, S: Source, W: Sink, E: Sink, C: Clock, R: Words>(
     ensures table { IsThreeAtNoTable (F.files shelf.old) (asked_of args.now) result }
     ensures ran { Ran (F.files shelf.old) args.now result (E.held errors.old) (E.held errors.new)
         (E.fault_count errors.old) (E.fault_count errors.new)
-        (Converses C.gives clock.old clock.new (S.left source.old) (S.left source.new) (W.held sink.old) (W.held sink.new)
+        (Converses C.gives (Draws R.gives R.fault_count) clock.old clock.new words.old words.new (S.left source.old) (S.left source.new) (W.held sink.old) (W.held sink.new)
         (F.files shelf.old) (asked_of args.now)) }
     ensures cause { result ≡ 1 → Rose (F.fault_count shelf.old) (F.fault_count shelf.new)
         ⊎ (Rose (S.fault_count source.old) (S.fault_count source.new) ⊎ Rose (W.fault_count sink.old) (W.fault_count sink.new)) }

@@ -9,6 +9,20 @@ const TABLE: &[u8] = b"iCloud.test development api\nwa ann\n";
 const REQUEST: &[u8] =
     b"POST /database/1/iCloud.test/development/private/records/modify?ckAPIToken=api&ckWebAuthToken=wa HTTP/1.1\r\nhost: h\r\ncontent-length: 88\r\n\r\n{\"operations\":[{\"operationType\":\"create\",\"record\":{\"recordName\":\"a\",\"recordType\":\"T\"}}]}";
 
+const ZONES: &[u8] =
+    b"GET /database/1/iCloud.test/development/private/zones/list?ckAPIToken=api&ckWebAuthToken=wa HTTP/1.1\r\nhost: h\r\n\r\n";
+
+const CLOSING: &[u8] =
+    b"GET /database/1/iCloud.test/development/private/zones/list?ckAPIToken=api HTTP/1.1\r\nconnection: close\r\n\r\nx";
+
+/// The last reply where the bytes go on as no request can.
+const FAREWELL: &[u8] =
+    b"HTTP/1.1 400 Bad Request\r\ncontent-type: application/json\r\ncontent-length: 56\r\nconnection: close\r\n\r\n{\"reason\":\"bad request\",\"serverErrorCode\":\"BAD_REQUEST\"}";
+
+/// The reply to `CLOSING`.
+const NO_CALLER: &[u8] =
+    b"HTTP/1.1 421 Misdirected Request\r\ncontent-type: application/json\r\ncontent-length: 80\r\nconnection: close\r\n\r\n{\"reason\":\"authentication required\",\"serverErrorCode\":\"AUTHENTICATION_REQUIRED\"}";
+
 /// A run in memory: its status, what it wrote, and its line on standard error.
 #[derive(Drop)]
 struct Ran {
@@ -95,23 +109,32 @@ fn refused_words_and_files_have_their_line(rt: HostRuntime) -> Result<(), Fail> 
 }
 
 #[test]
-fn ends_and_faults_have_their_line(rt: HostRuntime) -> Result<(), Fail> {
-    let fails = [
+fn ends_have_their_line(rt: HostRuntime) -> Result<(), Fail> {
+    for (input, status, line, written) in [
+        (b"".as_slice(), 0, "", b"".as_slice()),
+        (CLOSING, 0, "", NO_CALLER),
+        (b"x", 4, "ended: Cut\n", b""),
+        (b"x\r\n\r\n", 4, "ended: BadHead\n", FAREWELL),
+        (ZONES, 4, "ended: NotBuilt\n", b""),
+    ] {
+        let ran = run_once(rt.alloc(), ["users"].as_slice(), input, NONE)?;
+        assert_eq!(rt; ran.status, status, "{line}");
+        assert_eq!(rt; ran.line.as_slice(), line.as_bytes());
+        assert_eq!(rt; ran.written.as_slice(), written);
+    }
+    Ok(())
+}
+
+#[test]
+fn faults_of_devices_have_their_line(rt: HostRuntime) -> Result<(), Fail> {
+    for fails in [
         Fails { shelf: 1, ..NONE },
         Fails { source: 1, ..NONE },
         Fails { sink: 1, ..NONE },
-    ];
-    for (input, fails, status, line) in [
-        (b"x".as_slice(), NONE, 4, "ended: Cut\n"),
-        (b"x\r\n\r\n".as_slice(), NONE, 4, "ended: NotBuilt\n"),
-        (REQUEST, fails[0], 1, "device fault\n"),
-        (REQUEST, fails[1], 1, "device fault\n"),
-        (REQUEST, fails[2], 1, "device fault\n"),
-        (b"".as_slice(), NONE, 0, ""),
     ] {
-        let ran = run_once(rt.alloc(), ["users"].as_slice(), input, fails)?;
-        assert_eq!(rt; ran.status, status, "{line}");
-        assert_eq!(rt; ran.line.as_slice(), line.as_bytes());
+        let ran = run_once(rt.alloc(), ["users"].as_slice(), REQUEST, fails)?;
+        assert_eq!(rt; ran.status, 1);
+        assert_eq!(rt; ran.line.as_slice(), b"device fault\n".as_slice());
         assert!(rt; ran.written.is_empty());
     }
     Ok(())

@@ -18,32 +18,33 @@ use Rattle.ck_records.specs.Objects.{present}
 use Rattle.ck_records.specs.Words.{permission_name}
 use Rattle.ck_records.specs.Writing.{stamp_data, named_data, fields_members, participant_data, participants_data, share_in, record_data}
 use Rattle.ck_records.specs.Stored.{IsField, AreFields, IsStored}
+use Rattle.ck_records.specs.Flat.{RecordsAreFlat}
 use Rattle.ck_records.proofs.ObjectLemmas.{Listed}
 use Rattle.ck_records.proofs.LookupLemmas.{Pairs, members_at, put_in_order}
 
 -- it has no float, and nests at most n deep
-record Flat (n : ℕ) (d : Data) : Type 0 where
-  whole : has_float d ≡ false
-  shallow : depth d ≤ n
+pub record Flat (n : ℕ) (d : Data) : Type 0 where
+  pub whole : has_float d ≡ false
+  pub shallow : depth d ≤ n
 
-record FlatMembers (n : ℕ) (ms : Members) : Type 0 where
-  whole : members_have_float ms ≡ false
-  shallow : members_depth ms ≤ n
+pub record FlatMembers (n : ℕ) (ms : Members) : Type 0 where
+  pub whole : members_have_float ms ≡ false
+  pub shallow : members_depth ms ≤ n
 
-present_flat : (n : ℕ) (ms : Listed) → AllByRecursion (λ (m : List ℕ × Option Data). IfSome m.1 (Flat n)) ms → FlatMembers n (present ms)
+pub present_flat : (n : ℕ) (ms : Listed) → AllByRecursion (λ (m : List ℕ × Option Data). IfSome m.1 (Flat n)) ms → FlatMembers n (present ms)
 present_flat n [] all = record { whole = refl; shallow = omega arith }
 present_flat n ((k, None) ∷ ms) all = present_flat n ms all.1
 present_flat n ((k, Some d) ∷ ms) all =
     let rest = present_flat n ms all.1 in
     record { whole = or_from _ _ all.0.whole rest.whole; shallow = omega (arith, all.0.shallow, rest.shallow) }
 
-pairs_flat : (n : ℕ) (ms : Pairs) → AllByRecursion (λ (m : List ℕ × Data). Flat n m.1) ms → FlatMembers n (members_at ms)
+pub pairs_flat : (n : ℕ) (ms : Pairs) → AllByRecursion (λ (m : List ℕ × Data). Flat n m.1) ms → FlatMembers n (members_at ms)
 pairs_flat n [] all = record { whole = refl; shallow = omega arith }
 pairs_flat n ((k, d) ∷ ms) all =
     let rest = pairs_flat n ms all.1 in
     record { whole = or_from _ _ all.0.whole rest.whole; shallow = omega (arith, all.0.shallow, rest.shallow) }
 
-map_flat : {A : Type 0} (n : ℕ) (f : A → Data) (o : Option A) → ((x : A) → Flat n (f x)) → IfSome (option_map f o) (Flat n)
+pub map_flat : {A : Type 0} (n : ℕ) (f : A → Data) (o : Option A) → ((x : A) → Flat n (f x)) → IfSome (option_map f o) (Flat n)
 map_flat n f None each = tt
 map_flat n f (Some x) each = each x
 
@@ -55,7 +56,7 @@ fields_are_flat as_text [] all = tt
 fields_are_flat as_text (f ∷ fields) all =
     (record { whole = fields_flat.whole as_text f.1; shallow = fields_flat.shallow as_text f.1 all.0.1 }, fields_are_flat as_text fields all.1)
 
-fields_flat_in : (as_text : Bool) (fields : List (List ℕ × Value)) → AreFields fields → Flat 5 (object (fields_members as_text fields))
+fields_flat_in : (as_text : Bool) (fields : List (List ℕ × Value)) → AreFields fields → Flat 4 (object (fields_members as_text fields))
 fields_flat_in as_text fields are =
     let stand = put_in_order (field_data as_text) fields are.1 in
     let flat = pairs_flat 3 (map (λ (f : List ℕ × Value). (f.0, field_data as_text f.1)) fields) (fields_are_flat as_text fields are.0) in
@@ -69,13 +70,16 @@ entries_shallow : (public : Permission) (ps : List Participant) → items_depth 
 entries_shallow public [] = omega arith
 entries_shallow public (p ∷ ps) = omega (arith, entries_shallow public ps)
 
-participants_flat : (owner : List ℕ) (s : ShareOf) → Flat 5 (participants_data owner s)
+pub participants_whole : (owner : List ℕ) (s : ShareOf) → has_float (participants_data owner s) ≡ false
+participants_whole owner s = entries_whole s.public s.participants
+
+participants_flat : (owner : List ℕ) (s : ShareOf) → Flat 4 (participants_data owner s)
 participants_flat owner s = record { whole = entries_whole s.public s.participants; shallow = omega (arith, entries_shallow s.public s.participants) }
 
-text_flat : (text : List ℕ) → Flat 5 (string text)
+pub text_flat : (text : List ℕ) → Flat 4 (string text)
 text_flat text = record { whole = refl; shallow = omega arith }
 
-named_flat : (name : List ℕ) → Flat 5 (named_data name)
+pub named_flat : (name : List ℕ) → Flat 4 (named_data name)
 named_flat name = record { whole = refl; shallow = omega arith }
 
 -- ---- the record
@@ -98,21 +102,21 @@ table owner as_text r =
     ∷ []
 
 module _ (owner : List ℕ) (as_text : Bool) (r : Record) (is : IsStored r) where
-  members_flat : AllByRecursion (λ (m : List ℕ × Option Data). IfSome m.1 (Flat 5)) (table owner as_text r)
+  members_flat : AllByRecursion (λ (m : List ℕ × Option Data). IfSome m.1 (Flat 4)) (table owner as_text r)
   members_flat = (
     record { whole = refl; shallow = omega arith },
     (
       fields_flat_in as_text r.fields is.fields,
       (
-        map_flat 5 (λ (s : ShareOf). named_data s.root) (share_in r.body) (λ s. named_flat s.root),
+        map_flat 4 (λ (s : ShareOf). named_data s.root) (share_in r.body) (λ s. named_flat s.root),
         (
           record { whole = refl; shallow = omega arith },
           (
-            map_flat 5 named_data r.parent named_flat,
+            map_flat 4 named_data r.parent named_flat,
             (
-              map_flat 5 (participants_data owner) (share_in r.body) (participants_flat owner),
+              map_flat 4 (participants_data owner) (share_in r.body) (participants_flat owner),
               (
-                map_flat 5 (λ (s : ShareOf). string (permission_name s.public)) (share_in r.body) (λ s. text_flat (permission_name s.public)),
+                map_flat 4 (λ (s : ShareOf). string (permission_name s.public)) (share_in r.body) (λ s. text_flat (permission_name s.public)),
                 (
                   text_flat (decimal r.tag),
                   (
@@ -120,9 +124,9 @@ module _ (owner : List ℕ) (as_text : Bool) (r : Record) (is : IsStored r) wher
                     (
                       text_flat r.rtype,
                       (
-                        map_flat 5 named_data r.share named_flat,
+                        map_flat 4 named_data r.share named_flat,
                         (
-                          map_flat 5 (λ (s : ShareOf). string s.guid) (share_in r.body) (λ s. text_flat s.guid),
+                          map_flat 4 (λ (s : ShareOf). string s.guid) (share_in r.body) (λ s. text_flat s.guid),
                           tt,
                         ),
                       ),
@@ -137,7 +141,16 @@ module _ (owner : List ℕ) (as_text : Bool) (r : Record) (is : IsStored r) wher
     ),
   )
 
-  pub record_exact : IsExact (record_data owner as_text r)
-  record_exact =
-      let flat = present_flat 5 (table owner as_text r) members_flat in
+  pub record_flat : Flat 5 (record_data owner as_text r)
+  record_flat =
+      let flat = present_flat 4 (table owner as_text r) members_flat in
       record { whole = flat.whole; shallow = omega (arith, flat.shallow) }
+
+  pub record_exact : IsExact (record_data owner as_text r)
+  record_exact = record { whole = record_flat.whole; shallow = omega (arith, record_flat.shallow) }
+
+pub records_flat : RecordsAreFlat
+records_flat = record {
+  whole = λ owner as_text r is. (record_flat owner as_text r is).whole;
+  shallow = λ owner as_text r is. (record_flat owner as_text r is).shallow;
+}

@@ -14,7 +14,10 @@ pub mod ObjectLemmas
 pub mod GuidLemmas
 -- the JSON of a record tells it exactly by its text
 pub mod FlatLemmas
+pub mod DraftFlatLemmas
 -- looking into objects
 pub mod LookupLemmas
 -- reading what was written
 pub mod ReadsBackLemmas
+-- no JSON of a record has a float
+pub mod WholeLemmas

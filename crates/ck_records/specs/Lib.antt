@@ -32,3 +32,5 @@ pub mod Stored
 pub mod Replied
 -- which record JSON shows
 pub mod Shown
+-- the JSON of records and drafts has no float and is not deep
+pub mod Flat

@@ -1,7 +1,7 @@
 // Copies of records and of what they are made of.
 ghost use Rattle.std.specs.Prelude.{◌≡◌, IfOk};
 
-use crate::{Body, Field, Stamp};
+use crate::{Body, Field, Fields, Record, Stamp};
 use ck_base::{Items, NoMemory, RecordName};
 use field_values::copy_value;
 use share_records::{Participant, Participants, Share};
@@ -70,4 +70,31 @@ pub(crate) fn copy_body(alloc: Global, body: &Body) -> Result<Body, NoMemory>
         Body::Plain => Ok(Body::Plain),
         Body::Share(share) => Ok(Body::Share(copy_share(alloc, share)?)),
     }
+}
+
+fn copy_fields(alloc: Global, fields: &[Field]) -> Result<Fields, NoMemory>
+    ensures { IfOk result (λ copy. copy ≡ fields.now) }
+{
+    let mut copies = Vec::new(alloc);
+    for field in fields {
+        copies.push(copy_field(alloc, field)?)?;
+    }
+    Ok(Items::from_vec(copies))
+}
+
+/// A copy of the record. It fails only where memory runs out.
+pub fn copy_record(alloc: Global, record: &Record) -> Result<Record, NoMemory>
+    ensures { IfOk result (λ copy. copy ≡ «record».now) }
+{
+    Ok(Record {
+        name: record.name.clone()?,
+        rtype: record.rtype.clone()?,
+        tag: record.tag,
+        parent: copy_name(&record.parent)?,
+        share: copy_name(&record.share)?,
+        fields: copy_fields(alloc, record.fields.as_slice())?,
+        created: copy_stamp(&record.created)?,
+        modified: copy_stamp(&record.modified)?,
+        body: copy_body(alloc, &record.body)?,
+    })
 }

@@ -9,6 +9,8 @@ mod copy;
 mod cutting;
 mod draft;
 mod draft_fields;
+#[cfg(test)]
+mod draft_tests;
 mod draft_write;
 mod fault;
 mod filter;
@@ -19,6 +21,8 @@ mod participants;
 mod read;
 mod records;
 mod reply_record;
+#[cfg(test)]
+mod reply_record_tests;
 mod shown;
 mod shown_share;
 mod size;
@@ -30,12 +34,14 @@ mod words;
 mod write;
 
 pub use comparator::{Comparator, fits};
+pub use copy::copy_record;
 pub use cutting::cut;
 pub use draft::{Draft, ForRoot, ParentWish, WantedList, Wish, Wishes};
 pub use draft_write::draft_json;
 pub use fault::{RecordFault, RecordKey, ReplyRecordFault};
 pub use filter::{Filter, Filters};
-pub use laws::{drafts_read_back, records_read_back};
+pub use laws::{drafts_read_back, records_are_flat, records_read_back};
+pub use members::put_some;
 pub use read::read_record;
 pub use records::{Body, Field, Fields, Record, Rows, Stamp};
 pub use reply_record::read_reply_record;

@@ -7,8 +7,8 @@ use ck_base::NoMemory;
 use serde_json::{Map, Value as Json, put};
 use std::alloc::Global;
 
-/// Adds the member, where there is one.
-pub(crate) fn put_some(
+/// Adds the member to those of an object, where there is one. It fails only where memory runs out.
+pub fn put_some(
     members: &mut Map<String, Json>,
     alloc: Global,
     name: &str,

@@ -1,16 +1,22 @@
--- How one request is answered.
-use Rattle.std.specs.Prelude.{◌≡◌, ◌⊎◌, ℕ, true, List, [], ◌∷◌, ◌++◌, take, Option, None, Result, Ok, Err}
+-- How one request is served.
+use Rattle.std.specs.Prelude.{◌≡◌, ◌⊎◌, ℕ, ◌≤◌, List, [], ◌∷◌, ◌++◌, length, take, Option, None, Some, Result, Ok, Err}
 use Rattle.std.specs.Io.KnownBytes.{Appends}
 use Rattle.zone_model.specs.declared.events.Event.{Event}
 use Rattle.zone_model.specs.Histories.{Histories}
+use Rattle.board_model.specs.declared.answers.Answer.{Answer}
 use Rattle.board_model.specs.declared.answers.Answered.{Answered}
 use Rattle.board_model.specs.Turns.{IsAsked, MayHaveAsked}
+use Rattle.http_front.specs.declared.request.Request.{Request}
+use Rattle.http_front.specs.Users.{Table}
 use Rattle.talk_model.specs.declared.marks.At.{At}
 use Rattle.talk_model.specs.declared.marks.Mark.{Mark}
 use Rattle.talk_model.specs.declared.ends.TalkFaultKind.{TalkFaultKind}
 use Rattle.talk_model.specs.declared.ends.TalkFaultKind.TheVariants.{ReadFault, WriteFault, NoMemory}
-use Rattle.talk_model.specs.Requests.{Wanted}
+use Rattle.talk_model.specs.Requests.{Wanted, want_of}
+use Rattle.talk_model.specs.Given.{Given, given_of, AreWordsFor}
 use Rattle.talk_model.specs.Calls.{Asked, asks_of, reply_of}
+use Rattle.ck_server.specs.declared.serving.Served.{Served}
+use Rattle.ck_server.specs.declared.serving.Served.TheVariants.{Answered as WasAnswered, NotBuilt}
 use Rattle.ck_server.specs.Conversations.{Standing}
 
 -- where a conversation stands, as far as its answers go
@@ -21,58 +27,76 @@ answering held histories seats = record { left = None; held = held; histories = 
 abbrev pub at_of : Asked → Answered → At
 at_of ask answered = record { lock = ask.lock; len = answered.len; event = answered.event }
 
--- The part was asked, and its request was marked with that ask.
-pub record Marked (alone : Type 0) (number moment : ℕ) (before after : Standing) (old new : List Mark) (ask : Asked) (answered : Answered) : Type 0 where
+-- the board is as it was
+abbrev pub IsSameBoard : Standing → Standing → Type 0
+IsSameBoard before after = (before.histories ≡ after.histories) × (before.seats ≡ after.seats)
+
+-- Nothing was asked, or one part; these are the traces and the answers.
+pub data AreAsked (alone : Type 0) (before after : Standing) (askeds : List Asked) (ats : List At) (answers : List Answer) : Type 0 where
+  none_asked : askeds ≡ [] → ats ≡ [] → answers ≡ [] → IsSameBoard before after → AreAsked alone before after askeds ats answers
+  one_asked : (ask : Asked) → (answered : Answered) → askeds ≡ ask ∷ [] → ats ≡ at_of ask answered ∷ [] → answers ≡ answered.answer ∷ []
+      → IsAsked alone before.seats after.seats before.histories after.histories ask.lock ask.part answered → AreAsked alone before after askeds ats answers
+
+-- The request has its mark, its asks were answered, and of its reply all but unsent was written.
+pub record Replies (alone : Type 0) (gave : List Given → Type 0) (number : ℕ) (before after : Standing) (old new : List Mark) (w : Wanted) (unsent : List ℕ) : Type 0 where
   pub mark : Mark
+  pub given : gave (given_of mark ∷ [])
   pub marks : new ≡ old ++ mark ∷ []
   pub request : mark.request ≡ number
-  pub moment_is : mark.moment ≡ moment
-  pub words : mark.words.items ≡ []
-  pub drawn : mark.drawn ≡ true
-  pub asks : mark.asks.items ≡ at_of ask answered ∷ []
-  pub asked : IsAsked alone before.seats after.seats before.histories after.histories ask.lock ask.part answered
+  pub words : AreWordsFor w.want (given_of mark)
+  pub answers : List Answer
+  pub asked : AreAsked alone before after (asks_of w (given_of mark)) mark.asks.items answers
+  pub sent : List ℕ
+  pub text : reply_of w (given_of mark) answers ≡ sent ++ unsent
+  pub appended : Appends before.held after.held sent
 
--- Nothing was marked, and the board is as it was, or has perhaps been asked.
-pub record NotMarked (alone : Type 0) (before after : Standing) (old new : List Mark) (ask : Asked) : Type 0 where
+-- What is wanted of the request, as it was found.
+pub record IsWanted (t : Table) (r : Request) (w : Wanted) : Type 0 where
+  pub close : w.close ≡ r.close
+  pub want : want_of t r ≡ Some w.want
+
+-- the request was answered but for unsent
+abbrev pub IsServed : Type 0 → (List Given → Type 0) → ℕ → Standing → Standing → List Mark → List Mark → Table → Request → List ℕ → Type 0
+IsServed alone gave number before after old new t r unsent = (w : Wanted) × IsWanted t r w × Replies alone gave number before after old new w unsent
+
+-- An ask of the request was in hand.
+pub record WasAsking (alone : Type 0) (before after : Standing) (t : Table) (r : Request) (more : List Given) : Type 0 where
+  pub wanted : Wanted
+  pub is : IsWanted t r wanted
+  pub given : Given
+  pub last : more ≡ given ∷ []
+  pub ask : Asked
+  pub the_ask : asks_of wanted given ≡ ask ∷ []
+  pub may : MayHaveAsked alone before.seats after.seats before.histories after.histories ask.lock ask.part
+
+-- Memory ran out before the request was marked, and nothing was written; an ask may be in hand.
+pub record GivesUp (alone : Type 0) (gave : List Given → Type 0) (before after : Standing) (old new : List Mark) (t : Table) (r : Request) : Type 0 where
   pub marks : new ≡ old
-  pub may : ((before.histories ≡ after.histories) × (before.seats ≡ after.seats)) ⊎ MayHaveAsked alone before.seats after.seats before.histories after.histories ask.lock ask.part
+  pub more : List Given
+  pub one : length more ≤ 1
+  pub given : gave more
+  pub may : IsSameBoard before after ⊎ WasAsking alone before after t r more
+  pub appended : Appends before.held after.held []
 
--- a part was asked and marked, or memory ran out before
-abbrev pub Marks : {E : Type 0} → Type 0 → ℕ → ℕ → Standing → Standing → List Mark → List Mark → Asked → Result Answered E → Type 0
-Marks alone number moment before after old new ask (Ok answered) = Marked alone number moment before after old new ask answered
-Marks alone number moment before after old new ask (Err e) = NotMarked alone before after old new ask
+-- The form of the request is not built, and nothing was done.
+pub record IsLeft (gave : List Given → Type 0) (before after : Standing) (old new : List Mark) (t : Table) (r : Request) : Type 0 where
+  pub want : want_of t r ≡ None
+  pub given : gave []
+  pub marks : new ≡ old
+  pub board : IsSameBoard before after
+  pub appended : Appends before.held after.held []
 
--- a text was written, or a front of it, or nothing where memory ran out
+-- a request was answered, or its form is not built, or a part of its reply was written, or memory ran out
+abbrev pub Serves : Type 0 → (List Given → Type 0) → ℕ → Standing → Standing → List Mark → List Mark → Table → Request → Result Served TalkFaultKind → Type 0
+Serves alone gave number before after old new t r (Ok WasAnswered) = IsServed alone gave number before after old new t r []
+Serves alone gave number before after old new t r (Ok NotBuilt) = IsLeft gave before after old new t r
+Serves alone gave number before after old new t r (Err WriteFault) = (unsent : List ℕ) × IsServed alone gave number before after old new t r unsent
+Serves alone gave number before after old new t r (Err NoMemory) = ((unsent : List ℕ) × IsServed alone gave number before after old new t r unsent) ⊎ GivesUp alone gave before after old new t r
+Serves alone gave number before after old new t r (Err ReadFault) = ⊥
+
+-- a text was written, or a front of it
 abbrev pub Sends : {T : Type 0} → Option (List ℕ) → Option (List ℕ) → List ℕ → Result T TalkFaultKind → Type 0
 Sends held now text (Ok x) = Appends held now text
 Sends held now text (Err WriteFault) = (n : ℕ) × Appends held now (take n text)
-Sends held now text (Err NoMemory) = Appends held now []
+Sends held now text (Err NoMemory) = (n : ℕ) × Appends held now (take n text)
 Sends held now text (Err ReadFault) = ⊥
-
--- The one ask of the request was answered and marked, and of the reply all but unsent was written.
-pub record Replies (alone : Type 0) (given : ℕ → Type 0) (number : ℕ) (before after : Standing) (old new : List Mark) (w : Wanted) (unsent : List ℕ) : Type 0 where
-  pub moment : ℕ
-  pub given_is : given moment
-  pub ask : Asked
-  pub the_ask : asks_of w moment ≡ ask ∷ []
-  pub answered : Answered
-  pub marked : Marked alone number moment before after old new ask answered
-  pub sent : List ℕ
-  pub text : reply_of w (answered.answer ∷ []) ≡ sent ++ unsent
-  pub appended : Appends before.held after.held sent
-
--- Memory ran out before the request was marked, and nothing was written; its one ask may be in hand.
-pub record GivesUp (alone : Type 0) (given : ℕ → Type 0) (before after : Standing) (old new : List Mark) (w : Wanted) : Type 0 where
-  pub moment : ℕ
-  pub given_is : given moment
-  pub ask : Asked
-  pub the_ask : asks_of w moment ≡ ask ∷ []
-  pub not_marked : NotMarked alone before after old new ask
-  pub appended : Appends before.held after.held []
-
--- a request was answered, or a part of its reply was written, or memory ran out
-abbrev pub Answers : {T : Type 0} → Type 0 → (ℕ → Type 0) → ℕ → Standing → Standing → List Mark → List Mark → Wanted → Result T TalkFaultKind → Type 0
-Answers alone given number before after old new w (Ok x) = Replies alone given number before after old new w []
-Answers alone given number before after old new w (Err WriteFault) = (unsent : List ℕ) × Replies alone given number before after old new w unsent
-Answers alone given number before after old new w (Err NoMemory) = ((unsent : List ℕ) × Replies alone given number before after old new w unsent) ⊎ GivesUp alone given before after old new w
-Answers alone given number before after old new w (Err ReadFault) = ⊥

@@ -1,15 +1,16 @@
 -- What a conversation took, marked and wrote.
-use Rattle.std.specs.Prelude.{◌≡◌, ℕ, ◌≤◌, List, ◌++◌, length, Option, Some, true}
+use Rattle.std.specs.Prelude.{◌≡◌, ◌⊎◌, ℕ, ◌≤◌, List, ◌++◌, length, Option, Some}
 use Rattle.std.specs.List.{AllZip, concat}
 use Rattle.std.specs.Io.KnownBytes.{Consumes, Appends}
 use Rattle.zone_model.specs.declared.events.Event.{Event}
 use Rattle.zone_model.specs.Histories.{Histories, Grows}
-use Rattle.zone_model.specs.Lawful.{is_legal}
+use Rattle.zone_model.specs.Legal.{IsLegal}
+use Rattle.http_front.specs.Users.{Table}
 use Rattle.talk_model.specs.declared.marks.Mark.{Mark}
-use Rattle.talk_model.specs.Tables.{Table}
-use Rattle.talk_model.specs.Requests.{Wanted, IsRequest}
-use Rattle.talk_model.specs.Connections.{most_requests}
-use Rattle.talk_model.specs.Marks.{SeatsStay, AreMarksOf, AreInOrder, OwnAreMarked, asks_in, moments_of}
+use Rattle.talk_model.specs.Requests.{Wanted, Wants}
+use Rattle.talk_model.specs.Given.{givens_of}
+use Rattle.talk_model.specs.Connections.{most_requests, GoOn, AreClosing}
+use Rattle.talk_model.specs.Marks.{SeatsStay, AreMarksOf, AreInOrder, OwnAreMarked, asks_in}
 use Rattle.talk_model.specs.Talk.{talk}
 use Rattle.talk_model.specs.Alone.{after_all, alone_text}
 
@@ -22,33 +23,35 @@ pub record Standing : Type 0 where
 
 -- the history of each lock is legal
 abbrev pub AreLegal : Histories Event → Type 0
-AreLegal h = (lock : ℕ) → is_legal lock (h lock) ≡ true
+AreLegal h = (lock : ℕ) → IsLegal lock (h lock)
 
 -- the board is alone, and writes as seat 0
 abbrev pub IsLone : Type 0 → Standing → Type 0
 IsLone alone s = alone × ((lock : ℕ) → s.seats lock ≡ Some 0)
 
--- From entry until now, whole requests and then rest were taken; each request has its mark, which fits the histories; and of
--- the replies, which are the defined text, all but unsent was written. Of a board that is alone it is the text of its
--- single-client run.
-pub record Conversed (alone : Type 0) (t : Table) (entry now : Standing) (marks : List Mark) (rest unsent : List ℕ) : Type 0 where
+-- From entry until now, whole requests and then rest were taken; each request has its mark, which fits the histories, and none
+-- but the last asked to close; and of
+-- the replies, which are the defined text, and of what is written last, all but unsent was written. Of a board that is alone
+-- the replies are the text of its single-client run.
+pub record Conversed (alone : Type 0) (t : Table) (entry now : Standing) (marks : List Mark) (rest last unsent : List ℕ) : Type 0 where
   pub requests : List (List ℕ)
   pub wanted : List Wanted
   pub sent : List ℕ
-  pub each : AllZip (IsRequest t) requests wanted
+  pub each : AllZip (Wants t) requests wanted
   pub few : length marks ≤ most_requests
+  pub closing : GoOn wanted ⊎ AreClosing wanted
   pub consumed : Consumes entry.left now.left (concat requests ++ rest)
   pub grown : Grows entry.histories now.histories
   pub stay : SeatsStay entry.seats now.seats
   pub legal : AreLegal entry.histories → AreLegal now.histories
   pub marked : AreMarksOf now.seats 0 entry.histories now.histories marks wanted
   pub ordered : AreInOrder (asks_in marks)
-  pub text : talk wanted marks now.histories ≡ sent ++ unsent
+  pub text : talk wanted marks now.histories ++ last ≡ sent ++ unsent
   pub appended : Appends entry.held now.held sent
-  pub said : IsLone alone entry → talk wanted marks now.histories ≡ alone_text entry.histories wanted (moments_of marks)
+  pub said : IsLone alone entry → talk wanted marks now.histories ≡ alone_text entry.histories wanted (givens_of marks)
 
 -- No ask is in hand: the board's own events beyond those at entry are just those marked, and a board that is alone has the
 -- histories that its single-client run leaves.
 pub record IsSettled (alone : Type 0) (entry now : Standing) (marks : List Mark) (wanted : List Wanted) : Type 0 where
   pub own : OwnAreMarked now.seats entry.histories now.histories (asks_in marks)
-  pub left_behind : IsLone alone entry → (lock : ℕ) → now.histories lock ≡ after_all entry.histories wanted (moments_of marks) lock
+  pub left_behind : IsLone alone entry → (lock : ℕ) → now.histories lock ≡ after_all entry.histories wanted (givens_of marks) lock

@@ -1,137 +1,165 @@
-// The reply to a request.
-ghost use Rattle.std.specs.Prelude.{◌≡◌, string_bytes, IfOk};
-ghost use Rattle.serde_json.specs.Data.{array, object};
-ghost use Rattle.serde_json.specs.Written.{compact_text};
-ghost use Rattle.serde_json.specs.View.{view};
-ghost use Rattle.talk_model.specs.Errors.{code_of, reason_of};
-ghost use Rattle.talk_model.specs.Replies.{stamp_data, fields_members, record_data, error_data, entry_data, entries_data, reply_data, reply_text, modify_text};
+// Replies to calls, from their answers.
+ghost use Rattle.std.specs.Prelude.{◌≡◌, IfOk, map, zip};
+ghost use Rattle.talk_model.specs.Calls.{error_of, entry_of, shown, found_entry};
+ghost use Rattle.ck_server.specs.Forms.{HasMeantOps, reply_from};
 
-use ck_base::NoMemory;
-use field_values::field_json;
-use serde_json::{Map, Value as Json, json, put};
+use board_model::{Answer, Part};
+use ck_base::{Items, NoMemory, RecordName, RecordNames, ZoneKey};
+use ck_records::{Record, copy_record, cut};
+use error_replies::ServerError;
+use modify_ops::names_of;
 use std::alloc::Global;
-use talk_model::ServerError;
-use zone_model::{Field, Op, Outcome, Record, Stamp};
+use wire_calls::{RecordEntries, RecordEntry, RecordsReply, Reply};
+use zone_model::{OpFault, Outcome};
 
-fn stamp_json(alloc: Global, stamp: &Stamp) -> Result<Json, NoMemory>
-    ensures { IfOk result (λ json. view json ≡ stamp_data stamp.now) }
-{
-    let moment = stamp.moment;
-    let user = stamp.user.as_str();
-    Ok(json!(in alloc; {"timestamp": moment, "userRecordName": user})?)
+/// What a reply takes of its call, beside what the part has.
+#[derive(Drop)]
+pub(crate) struct Form {
+    pub numbers_as_strings: bool,
+    pub desired_keys: Option<RecordNames>,
 }
 
-fn fields_json(alloc: Global, fields: &[Field]) -> Result<Json, NoMemory>
-    ensures { IfOk result (λ json. view json ≡ object (fields_members fields.now)) }
+fn error_of(fault: OpFault) -> ServerError
+    ensures { result ≡ error_of fault }
 {
-    let mut members = Map::new(alloc);
-    for field in fields {
-        let value = field_json(alloc, &field.1, false)?;
-        put(&mut members, alloc, field.0.as_str(), value)?;
-    }
-    Ok(Json::Object(members))
-}
-
-fn record_json(alloc: Global, record: &Record) -> Result<Json, NoMemory>
-    ensures { IfOk result (λ json. view json ≡ record_data «record».now) }
-{
-    let created = stamp_json(alloc, &record.created)?;
-    let fields = fields_json(alloc, record.fields.as_slice())?;
-    let modified = stamp_json(alloc, &record.modified)?;
-    let tag = Json::String(record.tag.to_string(alloc)?);
-    let name = Json::try_from_str(alloc, record.name.as_str())?;
-    let rtype = Json::try_from_str(alloc, record.rtype.as_str())?;
-    let mut members = Map::new(alloc);
-    put(&mut members, alloc, "created", created)?;
-    put(&mut members, alloc, "fields", fields)?;
-    put(&mut members, alloc, "modified", modified)?;
-    put(&mut members, alloc, "recordChangeTag", tag)?;
-    put(&mut members, alloc, "recordName", name)?;
-    put(&mut members, alloc, "recordType", rtype)?;
-    Ok(Json::Object(members))
-}
-
-fn code_of(error: ServerError) -> &'static str
-    ensures { result.now ≡ code_of error }
-{
-    match error {
-        ServerError::Exists => "EXISTS",
+    match fault {
+        OpFault::Exists => ServerError::Exists,
+        OpFault::NotFound => ServerError::NotFound,
+        OpFault::Conflict => ServerError::Conflict,
+        OpFault::BadRequest => ServerError::BadRequest,
+        OpFault::AccessDenied => ServerError::AccessDenied,
+        OpFault::Validating => ServerError::ValidatingReferenceError,
+        OpFault::Atomic => ServerError::AtomicError,
     }
 }
 
-fn reason_of(error: ServerError) -> &'static str
-    ensures { result.now ≡ reason_of error }
-{
-    match error {
-        ServerError::Exists => "exists",
-    }
-}
-
-fn error_json(alloc: Global, error: ServerError, name: &str) -> Result<Json, NoMemory>
-    ensures { IfOk result (λ json. view json ≡ error_data error name.now) }
-{
-    let code = code_of(error);
-    let reason = reason_of(error);
-    Ok(json!(in alloc; {"reason": reason, "recordName": name, "serverErrorCode": code})?)
-}
-
-fn entry_json(alloc: Global, op: &Op, outcome: &Outcome) -> Result<Json, NoMemory>
-    ensures { IfOk result (λ json. view json ≡ entry_data op.now outcome.now) }
+fn outcome_entry(
+    alloc: Global,
+    name: &RecordName,
+    outcome: &Outcome,
+) -> Result<RecordEntry, NoMemory>
+    ensures { IfOk result (λ entry. entry ≡ entry_of (name.now, outcome.now)) }
 {
     match outcome {
-        Outcome::Put(record) => record_json(alloc, record),
-        Outcome::Refused { fault, .. } => {
-            error_json(alloc, ServerError::from(*fault), op.draft.name.as_str())
-        }
+        Outcome::Put(record) => Ok(RecordEntry::There(copy_record(alloc, record)?)),
+        Outcome::Deleted(gone) => Ok(RecordEntry::Gone(gone.clone()?)),
+        Outcome::Refused {
+            fault,
+            server: None,
+        } => Ok(RecordEntry::Failed {
+            error: error_of(*fault),
+            name: name.clone()?,
+        }),
+        Outcome::Refused {
+            server: Some(record),
+            ..
+        } => Ok(RecordEntry::Conflict {
+            name: name.clone()?,
+            server: copy_record(alloc, record)?,
+        }),
     }
 }
 
-fn entries_json(alloc: Global, ops: &[Op], outcomes: &[Outcome]) -> Result<Json, NoMemory>
-    ensures { IfOk result (λ json. view json ≡ array (entries_data ops.now outcomes.now)) }
+fn outcome_entries(
+    alloc: Global,
+    names: &[RecordName],
+    outcomes: &[Outcome],
+) -> Result<RecordEntries, NoMemory>
+    ensures { IfOk result (λ entries. entries ≡ map entry_of (zip names.now outcomes.now)) }
 {
     let mut entries = Vec::new(alloc);
-    for (op, outcome) in ops.iter().zip(outcomes) {
-        entries.push(entry_json(alloc, op, outcome)?)?;
+    for (name, outcome) in names.iter().zip(outcomes) {
+        entries.push(outcome_entry(alloc, name, outcome)?)?;
     }
-    Ok(Json::Array(entries))
+    Ok(Items::from_vec(entries))
 }
 
-fn reply_json(alloc: Global, ops: &[Op], outcomes: &[Outcome]) -> Result<Json, NoMemory>
-    ensures { IfOk result (λ json. view json ≡ reply_data ops.now outcomes.now) }
+fn shown(alloc: Global, keys: &Option<RecordNames>, record: &Record) -> Result<Record, NoMemory>
+    ensures { IfOk result (λ copy. copy ≡ shown keys.now «record».now) }
 {
-    let records = entries_json(alloc, ops, outcomes)?;
-    Ok(json!(in alloc; {"records": records})?)
+    match keys {
+        Some(keys) => cut(alloc, record, keys.as_slice()),
+        None => copy_record(alloc, record),
+    }
 }
 
-#[tactic(auto, using(crate::proofs::ReplyLemmas::reply_has_no_float))]
-fn body_text(alloc: Global, ops: &[Op], outcomes: &[Outcome]) -> Result<String, NoMemory>
-    ensures { IfOk result (λ body. string_bytes body ≡ compact_text (reply_data ops.now outcomes.now)) }
-{
-    Ok(reply_json(alloc, ops, outcomes)?.to_string(alloc)?)
-}
-
-fn reply_text(alloc: Global, body: &str) -> Result<String, NoMemory>
-    ensures { IfOk result (λ reply. string_bytes reply ≡ reply_text body.now) }
-{
-    let length = body.len().to_string(alloc)?;
-    let mut reply = String::from_str(
-        alloc,
-        "HTTP/1.1 200 OK\r\ncontent-type: application/json\r\ncontent-length: ",
-    )?;
-    reply.push_str(length.as_str())?;
-    reply.push_str("\r\n\r\n")?;
-    reply.push_str(body)?;
-    Ok(reply)
-}
-
-/// The whole reply to a modify, of status 200. It fails only where memory runs out.
-pub(crate) fn modify_reply(
+fn lookup_entry(
     alloc: Global,
-    ops: &[Op],
-    outcomes: &[Outcome],
-) -> Result<String, NoMemory>
-    ensures { IfOk result (λ reply. string_bytes reply ≡ modify_text ops.now outcomes.now) }
+    keys: &Option<RecordNames>,
+    name: &RecordName,
+    record: &Option<Record>,
+) -> Result<RecordEntry, NoMemory>
+    ensures { IfOk result (λ entry. entry ≡ found_entry keys.now (name.now, «record».now)) }
 {
-    let body = body_text(alloc, ops, outcomes)?;
-    reply_text(alloc, body.as_str())
+    match record {
+        Some(record) => Ok(RecordEntry::There(shown(alloc, keys, record)?)),
+        None => Ok(RecordEntry::Failed {
+            error: ServerError::NotFound,
+            name: name.clone()?,
+        }),
+    }
+}
+
+fn lookup_entries(
+    alloc: Global,
+    keys: &Option<RecordNames>,
+    names: &[RecordName],
+    records: &[Option<Record>],
+) -> Result<RecordEntries, NoMemory>
+    ensures { IfOk result (λ entries. entries ≡ map (found_entry keys.now) (zip names.now records.now)) }
+{
+    let mut entries = Vec::new(alloc);
+    for (name, record) in names.iter().zip(records) {
+        entries.push(lookup_entry(alloc, keys, name, record)?)?;
+    }
+    Ok(Items::from_vec(entries))
+}
+
+fn records_reply(
+    key: &ZoneKey,
+    form: &Form,
+    entries: RecordEntries,
+) -> Result<RecordsReply, NoMemory>
+    ensures { IfOk result (λ reply. reply ≡ record { zone = key.now; numbers_as_strings = form.now.numbers_as_strings; entries = entries }) }
+{
+    Ok(RecordsReply {
+        zone: key.clone()?,
+        numbers_as_strings: form.numbers_as_strings,
+        entries,
+    })
+}
+
+// The reply to the call that a part and a form came from, by the part's answer.
+pub(crate) fn reply_from(
+    alloc: Global,
+    part: &Part,
+    form: &Form,
+    answer: &Answer,
+) -> Result<Reply, NoMemory>
+    requires { HasMeantOps part.now }
+    ensures { IfOk result (λ reply. reply ≡ reply_from part.now form.now answer.now) }
+{
+    match part {
+        Part::Modify {
+            key,
+            ops,
+            words,
+            ..
+        } => match answer {
+            Answer::Modify(outcomes) => {
+                let names = names_of(alloc, ops.as_slice(), words.as_slice())?;
+                let entries = outcome_entries(alloc, names.as_slice(), outcomes.as_slice())?;
+                Ok(Reply::Modify(records_reply(key, form, entries)?))
+            }
+            Answer::Lookup(_) | Answer::NoZone => Ok(Reply::Refused(ServerError::ZoneNotFound)),
+        },
+        Part::Lookup { key, names, .. } => match answer {
+            Answer::Lookup(records) => {
+                let keys = &form.desired_keys;
+                let entries = lookup_entries(alloc, keys, names.as_slice(), records.as_slice())?;
+                Ok(Reply::Lookup(records_reply(key, form, entries)?))
+            }
+            Answer::Modify(_) | Answer::NoZone => Ok(Reply::Refused(ServerError::ZoneNotFound)),
+        },
+    }
 }

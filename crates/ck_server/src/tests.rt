@@ -1,212 +1,155 @@
+// Calls and their replies by rows.
 ghost use Rattle.std.specs.Prelude.{◌<◌};
 
-use crate::{Board, End, Solo, Talk, TalkFault, TalkFaultKind, Users, converse, read_users};
-use ck_devices::{CountWords, FixedClock, MemSink, MemSource, Sink, Source};
-use std::alloc::Global;
+use crate::End;
+use crate::test_talks::{
+    BAD_BODY, BAD_STATUS, CREATED, FOUND, Fails, LOOKUP, MADE, MODIFY, NONE, REQUEST, ask_of,
+    asks_nothing, both, reply, request, talk, talk_in, talk_once,
+};
 use std::test::Fail;
-
-const TABLE: &[u8] = b"iCloud.test development api\nwa ann\nwb bob\nwc cat\nwd dan\n";
-
-const REQUEST: &[u8] =
-    b"POST /database/1/iCloud.test/development/private/records/modify?ckAPIToken=api&ckWebAuthToken=wa HTTP/1.1\r\nhost: h\r\ncontent-length: 88\r\n\r\n{\"operations\":[{\"operationType\":\"create\",\"record\":{\"recordName\":\"a\",\"recordType\":\"T\"}}]}";
-
-const CREATED: &[u8] =
-    b"HTTP/1.1 200 OK\r\ncontent-type: application/json\r\ncontent-length: 188\r\n\r\n{\"records\":[{\"created\":{\"timestamp\":1000,\"userRecordName\":\"ann\"},\"fields\":{},\"modified\":{\"timestamp\":1000,\"userRecordName\":\"ann\"},\"recordChangeTag\":\"1\",\"recordName\":\"a\",\"recordType\":\"T\"}]}";
 
 const EXISTS: &[u8] =
     b"HTTP/1.1 200 OK\r\ncontent-type: application/json\r\ncontent-length: 77\r\n\r\n{\"records\":[{\"reason\":\"exists\",\"recordName\":\"a\",\"serverErrorCode\":\"EXISTS\"}]}";
 
-/// A connection on a board of its own, and what it wrote.
-#[derive(Drop)]
-struct Connection {
-    talk: Result<Talk, TalkFault>,
-    written: Vec<u8>,
-    read_faults: u64,
-    write_faults: u64,
-    seen: u64,
-}
+const A_AND_NOT_B: &[u8] =
+    b"HTTP/1.1 200 OK\r\ncontent-type: application/json\r\ncontent-length: 258\r\n\r\n{\"records\":[{\"created\":{\"timestamp\":1000,\"userRecordName\":\"ann\"},\"fields\":{},\"modified\":{\"timestamp\":1000,\"userRecordName\":\"ann\"},\"recordChangeTag\":\"1\",\"recordName\":\"a\",\"recordType\":\"T\"},{\"reason\":\"not found\",\"recordName\":\"b\",\"serverErrorCode\":\"NOT_FOUND\"}]}";
 
-fn run(alloc: Global, bytes: &[u8], piece: usize, fails: &[u64]) -> Result<Connection, Fail>
-    requires { 0 < piece }
-{
-    let users = read_users(alloc, TABLE)?;
-    let mut board = Solo::new(alloc);
-    let mut source = MemSource::new(bytes.to_vec(alloc)?, piece, fails.to_vec(alloc)?);
-    let mut sink = MemSink::new(alloc, piece, Vec::new(alloc));
-    let mut clock = FixedClock(1000);
-    let mut words = CountWords::new(1, Vec::new(alloc));
-    let talk = converse(
-        alloc,
-        &mut board,
-        &users,
-        &mut source,
-        &mut sink,
-        &mut clock,
-        &mut words,
-    );
-    Ok(Connection {
-        talk,
-        written: sink.bytes().to_vec(alloc)?,
-        read_faults: source.faults(),
-        write_faults: sink.faults(),
-        seen: board.seen(13),
-    })
-}
+const A_AND_B: &str = r#"{"records":[{"recordName":"a"},{"recordName":"b"}]}"#;
 
-// The lock, the length and the event of the ask of a request.
-fn ask_of(talk: &Talk, request: usize) -> Option<(u8, u64, bool)> {
-    let at = talk.marks.get(request)?.asks.first()?;
-    Some((at.lock, at.len, at.event))
-}
+const MOST: &str =
+    r#"{"numbersAsStrings":true,"operations":[{"operationType":"create","record":{"fields":{"n":{"value":9223372036854775807}},"recordName":"a","recordType":"T"}}]}"#;
+
+const MOST_THERE: &str =
+    r#"{"records":[{"created":{"timestamp":1000,"userRecordName":"ann"},"fields":{"n":{"type":"INT64","value":"9223372036854775807"}},"modified":{"timestamp":1000,"userRecordName":"ann"},"recordChangeTag":"1","recordName":"a","recordType":"T"}]}"#;
+
+/// A number past the range, and one that is no whole number.
+const WRONG_NUMBERS: [&str; 2] = [
+    r#"{"numbersAsStrings":true,"operations":[{"operationType":"create","record":{"fields":{"n":{"value":9223372036854775808}},"recordName":"a","recordType":"T"}}]}"#,
+    r#"{"numbersAsStrings":true,"operations":[{"operationType":"create","record":{"fields":{"n":{"value":1.0}},"recordName":"a","recordType":"T"}}]}"#,
+];
+
+const NAMELESS: &str = r#"{"operations":[{"operationType":"create","record":{"recordType":"T"}}]}"#;
+
+/// The number 1, the highest byte first.
+const FIRST_WORD: [u8; 16] = [0, 0, 0, 0, 0, 0, 0, 0, 0, 0, 0, 0, 0, 0, 0, 1];
+
+const NAMED_BY_ONE: &str =
+    r#"{"records":[{"created":{"timestamp":1000,"userRecordName":"ann"},"fields":{},"modified":{"timestamp":1000,"userRecordName":"ann"},"recordChangeTag":"1","recordName":"00000000-0000-4000-8000-000000000001","recordType":"T"}]}"#;
+
+const WITH_FIELDS: &str =
+    r#"{"operations":[{"operationType":"create","record":{"fields":{"l":{"value":[1,2]},"r":{"value":{"recordName":"b"}},"t":{"type":"TIMESTAMP","value":"7"},"z":{"value":null}},"recordName":"a","recordType":"T"}}]}"#;
+
+const ITS_RECORD: &str =
+    r#"{"records":[{"created":{"timestamp":1000,"userRecordName":"ann"},"fields":{"l":{"type":"INT64_LIST","value":[1,2]},"r":{"type":"REFERENCE","value":{"action":"NONE","recordName":"b"}},"t":{"type":"TIMESTAMP","value":7}},"modified":{"timestamp":1000,"userRecordName":"ann"},"recordChangeTag":"1","recordName":"a","recordType":"T"}]}"#;
 
 #[test]
 fn one_create_is_answered_with_its_record(rt: HostRuntime) -> Result<(), Fail> {
-    let run = run(rt.alloc(), REQUEST, 65_536, &[])?;
-    match &run.talk {
-        Err(_) => panic!(rt; "no fault"),
-        Ok(talk) => {
-            assert_eq!(rt; talk.end, End::Closed);
-            assert_eq!(rt; talk.marks.len(), 1);
-            assert_eq!(rt; ask_of(talk, 0), Some((13, 1, true)));
-            let mark = &talk.marks[0];
-            assert_eq!(rt; (mark.request, mark.moment, mark.drawn), (0, 1000, true));
-        }
+    for piece in [1usize, 7, 65_536] {
+        let talked = talk_in(rt.alloc(), REQUEST, piece.max(1), NONE)?;
+        assert_eq!(rt; talked.written.as_slice(), CREATED);
+        assert_eq!(rt; talked.end, Ok(End::Closed));
+        assert_eq!(rt; talked.marks.len(), 1);
+        assert_eq!(rt; ask_of(&talked, 0), MADE);
+        let mark = &talked.marks[0];
+        assert_eq!(rt; (mark.request, mark.moment, mark.drawn), (0, 1000, true));
+        assert_eq!(rt; (mark.asks.len(), mark.words.len()), (1, 0));
+        assert_eq!(rt; (talked.events, talked.elsewhere), (1, false));
     }
-    assert_eq!(rt; run.written.as_slice(), CREATED);
-    assert_eq!(rt; run.seen, 1);
     Ok(())
 }
 
 #[test]
 fn a_second_create_of_a_name_exists(rt: HostRuntime) -> Result<(), Fail> {
     let alloc = rt.alloc();
-    let mut bytes = REQUEST.to_vec(alloc)?;
-    bytes.extend_from_slice(REQUEST)?;
-    let mut replies = CREATED.to_vec(alloc)?;
-    replies.extend_from_slice(EXISTS)?;
-    for piece in [1, 7, 65_536] {
-        let run = run(alloc, &bytes, piece.max(1), &[])?;
-        match &run.talk {
-            Err(_) => panic!(rt; "no fault"),
-            Ok(talk) => {
-                assert_eq!(rt; talk.end, End::Closed);
-                assert_eq!(rt; talk.marks.len(), 2);
-                assert_eq!(rt; ask_of(talk, 0), Some((13, 1, true)));
-                assert_eq!(rt; ask_of(talk, 1), Some((13, 1, false)));
-            }
-        }
-        assert_eq!(rt;
-            run.written.as_slice(),
-            replies.as_slice(),
-            "in pieces of {piece}"
-        );
+    let input = both(alloc, REQUEST, REQUEST)?;
+    let replies = both(alloc, CREATED, EXISTS)?;
+    for piece in [1usize, 7, 65_536] {
+        let talked = talk_in(alloc, &input, piece.max(1), NONE)?;
+        assert_eq!(rt; talked.written, replies, "in pieces of {piece}");
+        assert_eq!(rt; talked.end, Ok(End::Closed));
+        assert_eq!(rt; talked.marks.len(), 2);
+        assert_eq!(rt; ask_of(&talked, 0), MADE);
+        assert_eq!(rt; ask_of(&talked, 1), FOUND);
+        assert_eq!(rt; talked.marks[1].request, 1);
+        assert_eq!(rt; talked.events, 1);
     }
     Ok(())
 }
 
 #[test]
-fn each_front_of_a_request_is_cut(rt: HostRuntime) -> Result<(), Fail> {
-    for count in 0..REQUEST.len() {
-        let run = run(rt.alloc(), &REQUEST[..count], 65_536, &[])?;
-        let end = if count == 0 { End::Closed } else { End::Cut };
-        match &run.talk {
-            Err(_) => panic!(rt; "no fault"),
-            Ok(talk) => {
-                assert_eq!(rt; talk.end, end, "after {count} bytes");
-                assert!(rt; talk.marks.is_empty());
-            }
-        }
-        assert!(rt; run.written.is_empty());
-        assert_eq!(rt; run.seen, 0);
+fn a_lookup_finds_what_was_created_and_nothing_else(rt: HostRuntime) -> Result<(), Fail> {
+    let alloc = rt.alloc();
+    let lookup = request(alloc, LOOKUP, A_AND_B)?;
+    let input = both(alloc, REQUEST, &lookup)?;
+    let replies = both(alloc, CREATED, A_AND_NOT_B)?;
+    let talked = talk(alloc, &input)?;
+    assert_eq!(rt; talked.written, replies);
+    assert_eq!(rt; talked.end, Ok(End::Closed));
+    assert_eq!(rt; talked.marks.len(), 2);
+    assert_eq!(rt; ask_of(&talked, 0), MADE);
+    assert_eq!(rt; ask_of(&talked, 1), FOUND);
+    assert_eq!(rt; talked.events, 1);
+    Ok(())
+}
+
+#[test]
+fn numbers_come_back_as_strings_where_that_is_asked(rt: HostRuntime) -> Result<(), Fail> {
+    let alloc = rt.alloc();
+    let talked = talk_once(alloc, MODIFY, MOST)?;
+    assert_eq!(rt; talked.written, reply(alloc, "200 OK", MOST_THERE)?);
+    assert_eq!(rt; ask_of(&talked, 0), MADE);
+    Ok(())
+}
+
+#[test]
+fn a_number_past_the_range_and_a_fraction_commit_nothing(rt: HostRuntime) -> Result<(), Fail> {
+    let alloc = rt.alloc();
+    for wrong in WRONG_NUMBERS {
+        let talked = talk_once(alloc, MODIFY, wrong)?;
+        assert_eq!(rt; talked.written, reply(alloc, BAD_STATUS, BAD_BODY)?);
+        assert_eq!(rt; talked.end, Ok(End::Closed));
+        assert_eq!(rt; talked.marks.len(), 1);
+        assert!(rt; asks_nothing(&talked, 0));
+        assert_eq!(rt; (talked.events, talked.elsewhere), (0, false));
     }
     Ok(())
 }
 
 #[test]
-fn other_forms_end_the_connection(rt: HostRuntime) -> Result<(), Fail> {
-    for (bytes, end) in [
-        (b"GET / HTTP/1.1\r\n".as_slice(), End::Cut),
-        (b"GET / HTTP/1.1\r\n\r\n".as_slice(), End::NotBuilt),
-        (
-            b"POST /database/1/iCloud.test/development/private/records/modify?ckAPIToken=api&ckWebAuthToken=wx HTTP/1.1\r\nhost: h\r\ncontent-length: 1\r\n\r\n{".as_slice(),
-            End::NotBuilt,
-        ),
-        (
-            b"POST /database/1/iCloud.test/development/private/records/modify?ckAPIToken=api&ckWebAuthToken=wa HTTP/1.1\r\nContent-Length: 2\r\nHost: h\r\n\r\n{}".as_slice(),
-            End::NotBuilt,
-        ),
-        (
-            b"POST /database/1/iCloud.test/development/private/records/modify?ckAPIToken=api&ckWebAuthToken=wa HTTP/1.1\r\nContent-Length: 3\r\nHost: h\r\n\r\n{}".as_slice(),
-            End::Cut,
-        ),
-        ([b'a'; 16_384].as_slice(), End::NotBuilt),
-        ([b'a'; 16_383].as_slice(), End::Cut),
-    ] {
-        let run = run(rt.alloc(), bytes, 65_536, &[])?;
-        match &run.talk {
-            Err(_) => panic!(rt; "no fault"),
-            Ok(talk) => {
-                assert_eq!(rt; talk.end, end);
-                assert!(rt; talk.marks.is_empty());
-            }
-        }
-        assert!(rt; run.written.is_empty());
-    }
-    Ok(())
-}
-
-const WITH_REFERENCES: &[u8] =
-    b"POST /database/1/iCloud.test/development/private/records/modify?ckAPIToken=api&ckWebAuthToken=wa HTTP/1.1\r\nhost: h\r\ncontent-length: 186\r\n\r\n{\"operations\":[{\"operationType\":\"create\",\"record\":{\"fields\":{\"l\":{\"value\":[{\"recordName\":\"b\"},{\"recordName\":\"c\"}]},\"r\":{\"value\":{\"recordName\":\"b\"}}},\"recordName\":\"a\",\"recordType\":\"T\"}}]}";
-
-const WHICH_COME_BACK: &[u8] =
-    b"HTTP/1.1 200 OK\r\ncontent-type: application/json\r\ncontent-length: 365\r\n\r\n{\"records\":[{\"created\":{\"timestamp\":1000,\"userRecordName\":\"ann\"},\"fields\":{\"l\":{\"type\":\"REFERENCE_LIST\",\"value\":[{\"action\":\"NONE\",\"recordName\":\"b\"},{\"action\":\"NONE\",\"recordName\":\"c\"}]},\"r\":{\"type\":\"REFERENCE\",\"value\":{\"action\":\"NONE\",\"recordName\":\"b\"}}},\"modified\":{\"timestamp\":1000,\"userRecordName\":\"ann\"},\"recordChangeTag\":\"1\",\"recordName\":\"a\",\"recordType\":\"T\"}]}";
-
-#[test]
-fn references_are_answered_unless_they_ask_for_something(rt: HostRuntime) -> Result<(), Fail> {
-    let plain = run(rt.alloc(), WITH_REFERENCES, 65_536, &[])?;
-    assert_eq!(rt; plain.written.as_slice(), WHICH_COME_BACK);
-    for bytes in [
-        b"POST /database/1/iCloud.test/development/private/records/modify?ckAPIToken=api&ckWebAuthToken=wa HTTP/1.1\r\nhost: h\r\ncontent-length: 152\r\n\r\n{\"operations\":[{\"operationType\":\"create\",\"record\":{\"fields\":{\"r\":{\"value\":{\"recordName\":\"b\",\"action\":\"VALIDATE\"}}},\"recordName\":\"a\",\"recordType\":\"T\"}}]}".as_slice(),
-        b"POST /database/1/iCloud.test/development/private/records/modify?ckAPIToken=api&ckWebAuthToken=wa HTTP/1.1\r\nhost: h\r\ncontent-length: 176\r\n\r\n{\"operations\":[{\"operationType\":\"create\",\"record\":{\"fields\":{\"l\":{\"value\":[{\"recordName\":\"b\"},{\"recordName\":\"c\",\"action\":\"DELETE_SELF\"}]}},\"recordName\":\"a\",\"recordType\":\"T\"}}]}".as_slice(),
-    ] {
-        let run = run(rt.alloc(), bytes, 65_536, &[])?;
-        match &run.talk {
-            Err(_) => panic!(rt; "no fault"),
-            Ok(talk) => {
-                assert_eq!(rt; talk.end, End::NotBuilt);
-                assert!(rt; talk.marks.is_empty());
-            }
-        }
-        assert!(rt; run.written.is_empty());
-        assert_eq!(rt; run.seen, 0);
-    }
+fn a_create_without_a_name_is_named_by_its_word(rt: HostRuntime) -> Result<(), Fail> {
+    let alloc = rt.alloc();
+    let talked = talk_once(alloc, MODIFY, NAMELESS)?;
+    assert_eq!(rt; talked.written, reply(alloc, "200 OK", NAMED_BY_ONE)?);
+    assert_eq!(rt; ask_of(&talked, 0), MADE);
+    assert_eq!(rt; talked.marks.len(), 1);
+    let mark = &talked.marks[0];
+    assert!(rt; mark.drawn);
+    assert_eq!(rt; mark.words.as_slice(), [FIRST_WORD].as_slice());
     Ok(())
 }
 
 #[test]
-fn a_failing_source_is_a_read_fault(rt: HostRuntime) -> Result<(), Fail> {
-    let run = run(rt.alloc(), REQUEST, 65_536, &[1])?;
-    match &run.talk {
-        Ok(_) => panic!(rt; "the first read fails"),
-        Err(fault) => {
-            assert_eq!(rt; fault.at, TalkFaultKind::ReadFault);
-            assert!(rt; fault.marks.is_empty());
-        }
-    }
-    assert_eq!(rt; (run.read_faults, run.write_faults), (1, 0));
-    assert!(rt; run.written.is_empty());
+fn a_draw_that_fails_is_tried_again_later(rt: HostRuntime) -> Result<(), Fail> {
+    let alloc = rt.alloc();
+    let input = request(alloc, MODIFY, NAMELESS)?;
+    let talked = talk_in(alloc, &input, 65_536, Fails { draw: 1, ..NONE })?;
+    let body = r#"{"reason":"try again later","serverErrorCode":"TRY_AGAIN_LATER"}"#;
+    assert_eq!(rt;
+        talked.written,
+        reply(alloc, "503 Service Unavailable", body)?
+    );
+    assert_eq!(rt; talked.end, Ok(End::Closed));
+    assert_eq!(rt; talked.marks.len(), 1);
+    assert!(rt; !talked.marks[0].drawn && talked.marks[0].words.is_empty());
+    assert!(rt; asks_nothing(&talked, 0));
+    assert_eq!(rt; (talked.events, talked.elsewhere), (0, false));
     Ok(())
 }
-
-const WITH_FIELDS: &[u8] =
-    b"POST /database/1/iCloud.test/development/private/records/modify?ckAPIToken=api&ckWebAuthToken=wa HTTP/1.1\r\nHOST: h\r\nContent-Length: 191\r\n\r\n{\"operations\":[{\"operationType\":\"create\",\"record\":{\"fields\":{\"l\":{\"value\":[1,2]},\"n\":{\"value\":5},\"t\":{\"type\":\"TIMESTAMP\",\"value\":\"7\"},\"z\":{\"value\":null}},\"recordName\":\"a\",\"recordType\":\"T\"}}]}";
-
-const ITS_RECORD: &[u8] =
-    b"HTTP/1.1 200 OK\r\ncontent-type: application/json\r\ncontent-length: 293\r\n\r\n{\"records\":[{\"created\":{\"timestamp\":1000,\"userRecordName\":\"ann\"},\"fields\":{\"l\":{\"type\":\"INT64_LIST\",\"value\":[1,2]},\"n\":{\"type\":\"INT64\",\"value\":5},\"t\":{\"type\":\"TIMESTAMP\",\"value\":7}},\"modified\":{\"timestamp\":1000,\"userRecordName\":\"ann\"},\"recordChangeTag\":\"1\",\"recordName\":\"a\",\"recordType\":\"T\"}]}";
 
 #[test]
 fn fields_come_back_with_their_types(rt: HostRuntime) -> Result<(), Fail> {
-    let run = run(rt.alloc(), WITH_FIELDS, 65_536, &[])?;
-    assert_eq!(rt; run.written.as_slice(), ITS_RECORD);
+    let alloc = rt.alloc();
+    let talked = talk_once(alloc, MODIFY, WITH_FIELDS)?;
+    assert_eq!(rt; talked.written, reply(alloc, "200 OK", ITS_RECORD)?);
     Ok(())
 }

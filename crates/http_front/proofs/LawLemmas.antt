@@ -12,7 +12,7 @@ use Rattle.http_front.specs.Lines.{most_head, most_lines, line_feeds, AreLines}
 use Rattle.http_front.specs.Fields.{body_length, asks_to_close}
 use Rattle.http_front.specs.Requests.{ReadsHead, HasNoHead, HasBadHead, HasLongHead, HasHead, IsUnfinished, in_head, in_body}
 use Rattle.http_front.specs.Reading.{IsFault}
-use Rattle.http_front.specs.Laws.{HasRequest, IsRefused, bad, long, unsized, Says}
+use Rattle.http_front.specs.Laws.{HasRequest, IsRefused, bad, long, unsized, Says, HeadsStay}
 use Rattle.http_front.proofs.LineLemmas.{feeds-append, feeds_of_head, head_ends}
 use Rattle.http_front.proofs.LookLemmas.{more-feeds, take-behind, length_some}
 
@@ -161,6 +161,9 @@ refused-more bytes more fault (bad e b) = bad e (bad-more bytes more b)
 refused-more bytes more fault (long e l) = long e (long-more bytes more l)
 refused-more bytes more fault (unsized h) = unsized (head-more bytes more (Err fault) h)
 
+pub heads_stay : HeadsStay
+heads_stay = record { bad_head = bad-more; long_head = long-more; head = head-more }
+
 pub stay_said : (bytes more : List ℕ) (r : Result Request FrontFault) → Says bytes r → Says (bytes ++ more) r
 stay_said bytes more (Ok q) x = record { front = x.front; rest = x.rest ++ more; parts = ap (λ l. l ++ more) x.parts ∙ append_assoc x.front x.rest more; is = x.is }
 stay_said bytes more (Err fault) x = refused-more bytes more fault x
@@ -199,7 +202,7 @@ wait_unsaid bytes (Err fault) x u = refused-not-waiting bytes fault x u
 none-in-nothing : (front rest : List ℕ) → 0 < length front → [] ≡ front ++ rest → ⊥
 none-in-nothing front rest some parts = omega (arith, some, ap length parts, length-append front rest)
 
-nothing-waits : IsUnfinished []
+pub nothing-waits : IsUnfinished []
 nothing-waits = in_head (omega arith) (omega arith) none fine
   where
     none : HasNoHead []

@@ -14,3 +14,11 @@ pub mod ReadingLemmas
 pub mod LawLemmas
 -- the bytes of a reply
 pub mod ReplyLemmas
+-- the table of users and its text
+pub mod UsersLemmas
+-- a path that is formed as the service's paths are
+pub mod RouteLemmas
+-- what the walk of the router finds over its one form
+pub mod MatchLemmas
+-- what the parameters of a match took
+pub mod TakenLemmas

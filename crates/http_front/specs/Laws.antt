@@ -1,5 +1,5 @@
 -- Bytes say what is read of them, whatever the pieces in which they came.
-use Rattle.std.specs.Prelude.{◌≡◌, ℕ, ◌≤◌, ◌⊎◌, List, ◌++◌, length, Option, Result, Ok, Err}
+use Rattle.std.specs.Prelude.{◌≡◌, ℕ, ◌≤◌, ◌⊎◌, List, [], ◌++◌, length, Option, Result, Ok, Err}
 use Rattle.http_front.specs.declared.faults.FrontFault.{FrontFault}
 use Rattle.http_front.specs.declared.faults.FrontFault.TheVariants.{BadHead, HeadTooLong, NoMemory}
 use Rattle.http_front.specs.declared.request.Request.{Request}
@@ -40,6 +40,16 @@ StaySaid = (bytes more : List ℕ) (r : Result Request FrontFault) → Says byte
 -- and as long as they are unfinished, they say nothing
 abbrev pub WaitUnsaid : Type 0
 WaitUnsaid = (bytes : List ℕ) (r : Result Request FrontFault) → Says bytes r → IsUnfinished bytes → ⊥
+
+-- no bytes are unfinished
+abbrev pub NothingWaits : Type 0
+NothingWaits = IsUnfinished []
+
+-- more bytes leave a bad head bad, one that is too long so, and what a head says
+pub record HeadsStay : Type 0 where
+  pub bad_head : (bytes more : List ℕ) → HasBadHead bytes → HasBadHead (bytes ++ more)
+  pub long_head : (bytes more : List ℕ) → HasLongHead bytes → HasLongHead (bytes ++ more)
+  pub head : (bytes more : List ℕ) (stated : Result ℕ FrontFault) → HasHead bytes stated → HasHead (bytes ++ more) stated
 
 -- a fault of a reading says that they are unfinished, or that they are refused with it, memory aside
 abbrev pub FaultsSay : Type 0

@@ -8,8 +8,16 @@ pub mod Requests
 pub mod Reading
 -- bytes say what is read of them
 pub mod Laws
+-- the two environments
+pub mod Environments
+-- the table of users
+pub mod Users
 -- the items of a target's query
 pub mod Queries
+-- what a request asks for, by its method and its target
+pub mod Routes
+-- who calls, by the target of a request and the table of users
+pub mod Callers
 -- the bytes of a reply
 pub mod Replies
 -- a field that was found by its name
@@ -18,3 +26,5 @@ pub mod Found
 pub mod Scans
 -- how a head is read on, and how a request is taken off
 pub mod Taking
+-- what the router takes from a path
+pub mod Matching

@@ -1,16 +1,10 @@
 // The items of a target's query.
-ghost use Rattle.std.specs.Prelude.{◌≡◌, ◌==◌, string_bytes, option_map, IfOk};
-ghost use Rattle.std.specs.List.{position};
+ghost use Rattle.std.specs.Prelude.{◌≡◌, string_bytes, option_map, IfOk};
 ghost use Rattle.http_front.specs.Queries.{query_of, item_of};
 
+use crate::cuts::place_of;
 use ck_base::NoMemory;
 use std::alloc::Global;
-
-fn place_of(bytes: &[u8], wanted: u8) -> Option<usize>
-    ensures { result ≡ position (λ b. b == wanted) bytes.now }
-{
-    bytes.iter().position(|byte| *byte == wanted)
-}
 
 // The query of a target, which its first question mark begins.
 fn query_of(target: &[u8]) -> &[u8]

@@ -9,6 +9,55 @@ use std::test::Fail;
 /// The sizes of the pieces that a source gives.
 const PIECES: [usize; 4] = [1, 2, 64, 65_536];
 
+/// Heads whose length is none, or too great, or that of a body which does not follow.
+const LENGTHS: [(&str, FrontFault); 12] = [
+    (
+        "POST / HTTP/1.1\r\ncontent-length: 1\r\nContent-Length: 1\r\n\r\nx",
+        FrontFault::NoLength,
+    ),
+    (
+        "POST / HTTP/1.1\r\ntransfer-encoding: chunked\r\n\r\n",
+        FrontFault::NoLength,
+    ),
+    (
+        "GET / HTTP/1.1\r\nTransfer-Encoding:\r\ncontent-length: 1\r\n\r\nx",
+        FrontFault::NoLength,
+    ),
+    ("POST / HTTP/1.1\r\n\r\n", FrontFault::NoLength),
+    (
+        "GET / HTTP/1.1\r\ncontent-length:\r\n\r\n",
+        FrontFault::NoLength,
+    ),
+    (
+        "GET / HTTP/1.1\r\ncontent-length: +1\r\n\r\nx",
+        FrontFault::NoLength,
+    ),
+    (
+        "GET / HTTP/1.1\r\ncontent-length: 1, 1\r\n\r\nx",
+        FrontFault::NoLength,
+    ),
+    (
+        "GET / HTTP/1.1\r\ncontent-length: 00000000000000000001\r\n\r\nx",
+        FrontFault::NoLength,
+    ),
+    (
+        "GET / HTTP/1.1\r\ncontent-length: 9999999999999999999\r\n\r\n",
+        FrontFault::BodyTooLong,
+    ),
+    (
+        "POST / HTTP/1.1\r\ncontent-length: 4194305\r\n\r\n",
+        FrontFault::BodyTooLong,
+    ),
+    (
+        "GET / HTTP/1.1\r\ncontent-length: 4194305\r\n\r\n",
+        FrontFault::BodyTooLong,
+    ),
+    (
+        "POST / HTTP/1.1\r\ncontent-length: 4194304\r\n\r\n",
+        FrontFault::Cut,
+    ),
+];
+
 /// A read of the next request, and what the buffer held behind it.
 #[derive(Drop)]
 struct Taken {
@@ -97,57 +146,9 @@ fn a_source_ends_before_or_inside_a_request(rt: HostRuntime) -> Result<(), Fail>
 
 #[test]
 fn a_head_says_one_valid_length(rt: HostRuntime) -> Result<(), Fail> {
-    for (bytes, wanted) in [
-        (
-            b"POST / HTTP/1.1\r\ncontent-length: 1\r\nContent-Length: 1\r\n\r\nx".as_slice(),
-            FrontFault::NoLength,
-        ),
-        (
-            b"POST / HTTP/1.1\r\ntransfer-encoding: chunked\r\n\r\n".as_slice(),
-            FrontFault::NoLength,
-        ),
-        (
-            b"GET / HTTP/1.1\r\nTransfer-Encoding:\r\ncontent-length: 1\r\n\r\nx".as_slice(),
-            FrontFault::NoLength,
-        ),
-        (b"POST / HTTP/1.1\r\n\r\n".as_slice(), FrontFault::NoLength),
-        (
-            b"GET / HTTP/1.1\r\ncontent-length:\r\n\r\n".as_slice(),
-            FrontFault::NoLength,
-        ),
-        (
-            b"GET / HTTP/1.1\r\ncontent-length: +1\r\n\r\nx".as_slice(),
-            FrontFault::NoLength,
-        ),
-        (
-            b"GET / HTTP/1.1\r\ncontent-length: 1, 1\r\n\r\nx".as_slice(),
-            FrontFault::NoLength,
-        ),
-        (
-            b"GET / HTTP/1.1\r\ncontent-length: 00000000000000000001\r\n\r\nx".as_slice(),
-            FrontFault::NoLength,
-        ),
-        (
-            b"GET / HTTP/1.1\r\ncontent-length: 9999999999999999999\r\n\r\n".as_slice(),
-            FrontFault::BodyTooLong,
-        ),
-        (
-            b"POST / HTTP/1.1\r\ncontent-length: 4194305\r\n\r\n".as_slice(),
-            FrontFault::BodyTooLong,
-        ),
-        (
-            b"GET / HTTP/1.1\r\ncontent-length: 4194305\r\n\r\n".as_slice(),
-            FrontFault::BodyTooLong,
-        ),
-        (
-            b"POST / HTTP/1.1\r\ncontent-length: 4194304\r\n\r\n".as_slice(),
-            FrontFault::Cut,
-        ),
-    ] {
-        assert!(rt;
-            fault(rt.alloc(), bytes, 65_536)? == Some(wanted),
-            "at {bytes:?}"
-        );
+    for (head, wanted) in LENGTHS {
+        let found = fault(rt.alloc(), head.as_bytes(), 65_536)?;
+        assert!(rt; found == Some(wanted), "at {head}");
     }
     Ok(())
 }

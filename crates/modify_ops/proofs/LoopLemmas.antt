@@ -7,7 +7,7 @@ use Rattle.serde_json.specs.View.{view}
 use Rattle.serde_json.specs.declared.value.Value.{Value as Json}
 use Rattle.ck_base.specs.declared.key.ZoneKey.{ZoneKey}
 use Rattle.field_values.specs.Results.{result_map, result_and_then}
-use Rattle.zone_rules.specs.declared.operations.Op.{Op}
+use Rattle.zone_model.specs.declared.operations.Op.{Op}
 use Rattle.modify_ops.specs.declared.fault.BadOps.{BadOps}
 use Rattle.modify_ops.specs.declared.fault.BadOps.TheVariants.{BadOp}
 use Rattle.modify_ops.specs.Forms.{op_of, ops_from}

@@ -9,9 +9,9 @@ use Rattle.field_values.proofs.ListLemmas.{elements_items}
 use Rattle.ck_records.specs.declared.draft.Draft.{Draft}
 use Rattle.ck_records.specs.DraftWriting.{draft_data}
 use Rattle.ck_records.proofs.ReadsBackLemmas.{name_told, drafts_read_back}
-use Rattle.zone_rules.specs.declared.operations.OpKind.{OpKind}
-use Rattle.zone_rules.specs.declared.operations.OpKind.TheVariants.{Create, Update, ForceUpdate, Replace, ForceReplace, Delete, ForceDelete}
-use Rattle.zone_rules.specs.declared.operations.Op.{Op}
+use Rattle.zone_model.specs.declared.operations.OpKind.{OpKind}
+use Rattle.zone_model.specs.declared.operations.OpKind.TheVariants.{Create, Update, ForceUpdate, Replace, ForceReplace, Delete, ForceDelete}
+use Rattle.zone_model.specs.declared.operations.Op.{Op}
 use Rattle.modify_ops.specs.Kinds.{is_create}
 use Rattle.modify_ops.specs.Forms.{bare, deletion_of, draft_as, op_from, op_of, ops_from}
 use Rattle.modify_ops.specs.Writing.{op_data}

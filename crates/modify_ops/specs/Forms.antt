@@ -10,8 +10,8 @@ use Rattle.ck_records.specs.declared.draft.Draft.{Draft}
 use Rattle.ck_records.specs.declared.draft.ParentWish.TheVariants.{Absent}
 use Rattle.ck_records.specs.Reading.{tag_in, draft_of}
 use Rattle.ck_records.specs.Sequence.{◌>>=◌}
-use Rattle.zone_rules.specs.declared.operations.OpKind.{OpKind}
-use Rattle.zone_rules.specs.declared.operations.Op.{Op}
+use Rattle.zone_model.specs.declared.operations.OpKind.{OpKind}
+use Rattle.zone_model.specs.declared.operations.Op.{Op}
 use Rattle.modify_ops.specs.declared.fault.BadOps.{BadOps}
 use Rattle.modify_ops.specs.declared.fault.BadOps.TheVariants.{BadOp}
 use Rattle.modify_ops.specs.Kinds.{kind_named, is_deletion, is_create}

@@ -1,7 +1,7 @@
 -- The words of operations in JSON, as in "Record Operation Dictionary" of the CloudKit Web Services Reference.
 use Rattle.std.specs.Prelude.{ℕ, Bool, true, false, List, [], ◌∷◌, codes, bytes_eq, find, Option}
-use Rattle.zone_rules.specs.declared.operations.OpKind.{OpKind}
-use Rattle.zone_rules.specs.declared.operations.OpKind.TheVariants.{Create, Update, ForceUpdate, Replace, ForceReplace, Delete, ForceDelete}
+use Rattle.zone_model.specs.declared.operations.OpKind.{OpKind}
+use Rattle.zone_model.specs.declared.operations.OpKind.TheVariants.{Create, Update, ForceUpdate, Replace, ForceReplace, Delete, ForceDelete}
 
 abbrev pub kind_name : OpKind → List ℕ
 kind_name Create = codes "create"

@@ -10,3 +10,5 @@ pub mod Reading
 pub mod Writing
 -- the operations that some JSON means, and reading what was written
 pub mod Meant
+-- what random words are drawn for
+pub mod Drawing

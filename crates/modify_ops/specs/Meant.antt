@@ -5,8 +5,8 @@ use Rattle.ck_base.specs.Names.{IsName}
 use Rattle.ck_base.specs.declared.key.ZoneKey.{ZoneKey}
 use Rattle.ck_records.specs.declared.draft.Draft.{Draft}
 use Rattle.ck_records.specs.Meant.{IsMeantDraft}
-use Rattle.zone_rules.specs.declared.operations.OpKind.{OpKind}
-use Rattle.zone_rules.specs.declared.operations.Op.{Op}
+use Rattle.zone_model.specs.declared.operations.OpKind.{OpKind}
+use Rattle.zone_model.specs.declared.operations.Op.{Op}
 use Rattle.modify_ops.specs.Kinds.{is_deletion, is_create}
 use Rattle.modify_ops.specs.Forms.{bare}
 use Rattle.modify_ops.specs.Reading.{list_of}

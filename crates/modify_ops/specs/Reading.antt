@@ -5,7 +5,7 @@ use Rattle.serde_json.specs.Find.{as_array}
 use Rattle.ck_base.specs.declared.key.ZoneKey.{ZoneKey}
 use Rattle.field_values.specs.Members.{elements}
 use Rattle.ck_records.specs.Sequence.{◌>>=◌}
-use Rattle.zone_rules.specs.declared.operations.Op.{Op}
+use Rattle.zone_model.specs.declared.operations.Op.{Op}
 use Rattle.modify_ops.specs.declared.fault.BadOps.{BadOps}
 use Rattle.modify_ops.specs.declared.fault.BadOps.TheVariants.{TooMany, BadOp, Twice}
 use Rattle.modify_ops.specs.Forms.{ops_from}

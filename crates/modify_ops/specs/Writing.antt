@@ -3,7 +3,7 @@ use Rattle.std.specs.Prelude.{List, map, codes}
 use Rattle.serde_json.specs.Data.{Data, string, array, object, no_members, member}
 use Rattle.serde_json.specs.View.{items_of}
 use Rattle.ck_records.specs.DraftWriting.{draft_data}
-use Rattle.zone_rules.specs.declared.operations.Op.{Op}
+use Rattle.zone_model.specs.declared.operations.Op.{Op}
 use Rattle.modify_ops.specs.Kinds.{kind_name}
 
 abbrev pub op_data : Op → Data

@@ -1,6 +1,7 @@
 //! The operations of requests on records: which ones JSON means, and their JSON.
 #![tactic(auto)]
 
+mod drawing;
 mod fault;
 mod form;
 mod kind;
@@ -11,10 +12,11 @@ mod read;
 mod tests;
 mod write;
 
+pub use drawing::{draws_name, name_of_word, names_of, words_drawn, words_for};
 pub use fault::BadOps;
 pub use form::read_op_list;
 pub use laws::ops_read_back;
 pub use names::named_again;
 pub use read::read_ops;
 pub use write::{op_json, ops_json};
-pub use zone_rules::{Op, OpKind, Ops};
+pub use zone_model::{Op, OpKind, Ops};

@@ -1,5 +1,8 @@
 // Rows with expected values from the forms of operations in requests.
-use crate::{BadOps, Op, OpKind, Ops, named_again, op_json, ops_json, read_op_list, read_ops};
+use crate::{
+    BadOps, Op, OpKind, Ops, named_again, names_of, op_json, ops_json, read_op_list, read_ops,
+    words_drawn,
+};
 use ck_base::{ZoneKey, user_name, zone_name};
 use serde_json::Value as Json;
 use std::alloc::Global;
@@ -176,5 +179,26 @@ fn reads_operations_and_writes_them(rt: HostRuntime) -> Result<(), Fail> {
         json.as_str(),
         r#"{"operationType":"delete","record":{"recordChangeTag":"7","recordName":"a"}}"#
     );
+    Ok(())
+}
+
+#[test]
+fn names_a_create_without_a_name_by_its_word(rt: HostRuntime) -> Result<(), Fail> {
+    let alloc = rt.alloc();
+    let text =
+        r#"[{"operationType":"create","record":{"recordName":"a"}},{"operationType":"create","record":{}}]"#;
+    let json = Json::from_str(alloc, text)?;
+    let ann = user_name(alloc, b"ann")?;
+    let Ok(ops) = read_op_list(alloc, &json, &notes(alloc)?, &ann) else {
+        panic!(rt; "no operations in {text}");
+    };
+    assert_eq!(rt; words_drawn(ops.as_slice()), 1);
+    let words = [1_u128.to_be_bytes()];
+    let names = names_of(alloc, ops.as_slice(), &words)?;
+    assert_eq!(rt; names.len(), 2);
+    let first = names.get(0).ok_or("a name")?;
+    assert_eq!(rt; first.as_str(), "a");
+    let second = names.get(1).ok_or("a name")?;
+    assert_eq!(rt; second.as_str(), "00000000-0000-4000-8000-000000000001");
     Ok(())
 }

@@ -6,25 +6,26 @@ use Rattle.zone_model.specs.declared.events.Event.{Event}
 use Rattle.zone_model.specs.Histories.{Histories}
 use Rattle.board_model.specs.Asks.{made}
 use Rattle.talk_model.specs.Requests.{Wanted}
+use Rattle.talk_model.specs.Given.{Given}
 use Rattle.talk_model.specs.Calls.{Asked, asks_of, reply_of}
 use Rattle.talk_model.specs.Alone.{after_ask, after_asks, answers_alone, after_all, alone_text}
 
-pub after_all-snoc : (h : Histories Event) (ws : List Wanted) (moments : List ℕ) (w : Wanted) (moment : ℕ) → length ws ≡ length moments
-    → after_all h (ws ++ w ∷ []) (moments ++ moment ∷ []) ≡ after_asks (after_all h ws moments) (asks_of w moment)
-after_all-snoc h [] [] w moment e = refl
-after_all-snoc h [] (m ∷ moments) w moment e = absurd (omega (arith, e))
-after_all-snoc h (v ∷ ws) [] w moment e = absurd (omega (arith, e))
-after_all-snoc h (v ∷ ws) (m ∷ moments) w moment e = after_all-snoc (after_asks h (asks_of v m)) ws moments w moment (omega (arith, e))
+pub after_all-snoc : (h : Histories Event) (ws : List Wanted) (given : List Given) (w : Wanted) (g : Given) → length ws ≡ length given
+    → after_all h (ws ++ w ∷ []) (given ++ g ∷ []) ≡ after_asks (after_all h ws given) (asks_of w g)
+after_all-snoc h [] [] w g e = refl
+after_all-snoc h [] (m ∷ given) w g e = absurd (omega (arith, e))
+after_all-snoc h (v ∷ ws) [] w g e = absurd (omega (arith, e))
+after_all-snoc h (v ∷ ws) (m ∷ given) w g e = after_all-snoc (after_asks h (asks_of v m)) ws given w g (omega (arith, e))
 
-pub alone_text-snoc : (h : Histories Event) (ws : List Wanted) (moments : List ℕ) (w : Wanted) (moment : ℕ) → length ws ≡ length moments
-    → alone_text h (ws ++ w ∷ []) (moments ++ moment ∷ []) ≡ alone_text h ws moments ++ reply_of w (answers_alone (after_all h ws moments) (asks_of w moment))
-alone_text-snoc h [] [] w moment e = append-nil (reply_of w (answers_alone h (asks_of w moment)))
-alone_text-snoc h [] (m ∷ moments) w moment e = absurd (omega (arith, e))
-alone_text-snoc h (v ∷ ws) [] w moment e = absurd (omega (arith, e))
-alone_text-snoc h (v ∷ ws) (m ∷ moments) w moment e =
+pub alone_text-snoc : (h : Histories Event) (ws : List Wanted) (given : List Given) (w : Wanted) (g : Given) → length ws ≡ length given
+    → alone_text h (ws ++ w ∷ []) (given ++ g ∷ []) ≡ alone_text h ws given ++ reply_of w g (answers_alone (after_all h ws given) (asks_of w g))
+alone_text-snoc h [] [] w g e = append-nil (reply_of w g (answers_alone h (asks_of w g)))
+alone_text-snoc h [] (m ∷ given) w g e = absurd (omega (arith, e))
+alone_text-snoc h (v ∷ ws) [] w g e = absurd (omega (arith, e))
+alone_text-snoc h (v ∷ ws) (m ∷ given) w g e =
     let next = after_asks h (asks_of v m) in
-    ap (λ t. reply_of v (answers_alone h (asks_of v m)) ++ t) (alone_text-snoc next ws moments w moment (omega (arith, e)))
-    ∙ sym (append_assoc (reply_of v (answers_alone h (asks_of v m))) (alone_text next ws moments) (reply_of w (answers_alone (after_all next ws moments) (asks_of w moment))))
+    ap (λ t. reply_of v m (answers_alone h (asks_of v m)) ++ t) (alone_text-snoc next ws given w g (omega (arith, e)))
+    ∙ sym (append_assoc (reply_of v m (answers_alone h (asks_of v m))) (alone_text next ws given) (reply_of w g (answers_alone (after_all next ws given) (asks_of w g))))
 
 -- what an ask leaves at each lock
 pub ask_leaves : (old new : Histories Event) (a : Asked) → new a.lock ≡ old a.lock ++ made 0 (old a.lock) a.part → ((k : ℕ) → k ≢ a.lock → new k ≡ old k)

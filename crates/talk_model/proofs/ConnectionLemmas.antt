@@ -1,111 +1,229 @@
 -- The requests at the front of bytes, and the end behind them, are determined by the bytes.
-use Rattle.std.proofs.Common.{◌≡◌, ℕ, suc, ◌+◌, ◌<◌, List, [], ◌∷◌, ◌++◌, length, refl, sym, ap, subst, ◌∙◌, arith, append_assoc}
+use Rattle.std.proofs.Common.{◌≡◌, ℕ, ◌<◌, false, List, [], ◌∷◌, ◌++◌, length, refl, sym, ap, subst, ◌∙◌, arith, append_assoc, append-nil, length-append, None, Some, Result, Ok, Err}
 use Rattle.std.specs.List.{AllZip, concat}
+use Rattle.std.proofs.lemmas.List.{append_cancel_left}
+use Rattle.http_front.specs.declared.faults.FrontFault.{FrontFault}
+use Rattle.http_front.specs.declared.faults.FrontFault.TheVariants as fault
+use Rattle.http_front.specs.declared.request.Request.{Request}
+use Rattle.http_front.specs.Requests.{IsUnfinished}
+use Rattle.http_front.specs.Laws.{HasRequest, IsRefused, bad, long, unsized}
+use Rattle.http_front.proofs.LawLemmas.{say_one, cut_one, wait_unsaid, stay_said, nothing-waits, heads_stay}
+use Rattle.http_front.specs.Users.{Table}
 use Rattle.talk_model.specs.declared.ends.End.{End}
 use Rattle.talk_model.specs.declared.ends.End.TheVariants.{Closed, CloseAsked, Cut, BadHead, HeadTooLong, NoLength, BodyTooLong, Spent, NotBuilt}
-use Rattle.talk_model.specs.Tables.{Table}
-use Rattle.talk_model.specs.Requests.{Wanted, IsRequest, IsOfOtherForm, IsCutShort}
-use Rattle.talk_model.specs.Connections.{most_requests, LeavesAt, AreRequests}
-use Rattle.talk_model.proofs.RequestLemmas as requests
+use Rattle.talk_model.specs.declared.wants.Want.{Want}
+use Rattle.talk_model.specs.Requests.{Wanted, want_of, Wants, IsUnbuilt}
+use Rattle.talk_model.specs.Connections.{most_requests, GoOn, AreOpen, AreClosing, LeavesAt, AreRequests}
 
--- the ends that are built
-data Leaves (t : Table) (end : End) (count : ℕ) (rest : List ℕ) : Type 0 where
-  closed : end ≡ Closed → count < most_requests → rest ≡ [] → Leaves t end count rest
-  cut : end ≡ Cut → count < most_requests → IsCutShort t rest → Leaves t end count rest
-  not_built : end ≡ NotBuilt → count < most_requests → IsOfOtherForm t rest → Leaves t end count rest
-  spent : end ≡ Spent → count ≡ most_requests → Leaves t end count rest
+-- the end of a connection whose bytes are refused with this fault
+abbrev end_of : FrontFault → End
+end_of fault.BadHead = BadHead
+end_of fault.HeadTooLong = HeadTooLong
+end_of fault.NoLength = NoLength
+end_of fault.BodyTooLong = BodyTooLong
+end_of _ = Closed
+
+-- what stands behind requests at an end at which a further one might have come
+data Behind (t : Table) (rest : List ℕ) (end : End) : Type 0 where
+  nothing : end ≡ Closed → rest ≡ [] → Behind t rest end
+  cut : end ≡ Cut → 0 < length rest → IsUnfinished rest → Behind t rest end
+  refused : (f : FrontFault) → end ≡ end_of f → IsRefused rest f → Behind t rest end
+  unbuilt : end ≡ NotBuilt → IsUnbuilt t rest → Behind t rest end
+
+data Leaves (t : Table) (ws : List Wanted) (rest : List ℕ) (end : End) : Type 0 where
+  are_open : AreOpen ws → Behind t rest end → Leaves t ws rest end
+  closing : end ≡ CloseAsked → AreClosing ws → Leaves t ws rest end
+  spent : end ≡ Spent → length ws ≡ most_requests → GoOn ws → Leaves t ws rest end
+
+err_is : (e f : FrontFault) → ◌≡◌ {A = Result Request FrontFault} (Err e) (Err f) → e ≡ f
+err_is e f p = cc
+
+ok_is : (q r : Request) → ◌≡◌ {A = Result Request FrontFault} (Ok q) (Ok r) → q ≡ r
+ok_is q r p = cc
+
+not_both : (q : Request) (f : FrontFault) → ◌≡◌ {A = Result Request FrontFault} (Ok q) (Err f) → ⊥
+not_both q f p = cc
+
+-- ---- those that go on
+
+go_on-front : (before after : List Wanted) → GoOn (before ++ after) → GoOn before
+go_on-front [] after all = tt
+go_on-front (w ∷ before) after all = (all.0, go_on-front before after all.1)
+
+go_on-last : (before : List Wanted) (last : Wanted) → GoOn (before ++ last ∷ []) → last.close ≡ false
+go_on-last [] last all = all.0
+go_on-last (w ∷ before) last all = go_on-last before last all.1
+
+not_going : (ws : List Wanted) → GoOn ws → AreClosing ws → ⊥
+not_going ws all c =
+    let e : c.last.close ≡ false = go_on-last c.before c.last (subst GoOn c.parts all) in
+    let k = c.closes in absurd (cc)
+
+-- a front of closing ones goes on
+closing-front : (before : List Wanted) (w : Wanted) (after last_before : List Wanted) (last : Wanted) → before ++ w ∷ after ≡ last_before ++ last ∷ [] → AreOpen last_before
+    → AreOpen before
+closing-front before w after last_before last parts o = record { few = few; go_on = shorter before w after last_before last parts o.go_on }
+  where
+    few : length before < most_requests
+    few = omega (arith, o.few, ap length parts, length-append before (w ∷ after), length-append last_before (last ∷ []))
+
+    shorter : (before : List Wanted) (w : Wanted) (after last_before : List Wanted) (last : Wanted) → before ++ w ∷ after ≡ last_before ++ last ∷ [] → GoOn last_before → GoOn before
+    shorter [] w after last_before last parts all = tt
+    shorter (v ∷ before) w after [] last parts all = absurd (omega (arith, ap length parts, length-append before (w ∷ after)))
+    shorter (v ∷ before) w after (u ∷ us) last parts all =
+        let same : v ≡ u = cc in
+        (ap (λ (x : Wanted). x.close) same ∙ all.0, shorter before w after us last (cc) all.1)
 
 module _ (t : Table) where
-  leaves : (end : End) (count : ℕ) (rest : List ℕ) → LeavesAt t end count rest → Leaves t end count rest
-  leaves Closed count rest l = closed refl l.0 l.1
-  leaves CloseAsked count rest l = absurd l
-  leaves Cut count rest l = cut refl l.0 l.1
-  leaves BadHead count rest l = absurd l
-  leaves HeadTooLong count rest l = absurd l
-  leaves NoLength count rest l = absurd l
-  leaves BodyTooLong count rest l = absurd l
-  leaves Spent count rest l = spent refl l
-  leaves NotBuilt count rest l = not_built refl l.0 l.1
+  leaves : (end : End) (ws : List Wanted) (rest : List ℕ) → LeavesAt t end ws rest → Leaves t ws rest end
+  leaves Closed ws rest l = are_open l.0 (nothing refl l.1)
+  leaves CloseAsked ws rest l = closing refl l
+  leaves Cut ws rest l = are_open l.0 (cut refl l.1 l.2)
+  leaves BadHead ws rest l = are_open l.0 (refused fault.BadHead refl (bad refl l.1))
+  leaves HeadTooLong ws rest l = are_open l.0 (refused fault.HeadTooLong refl (long refl l.1))
+  leaves NoLength ws rest l = are_open l.0 (refused fault.NoLength refl (unsized l.1))
+  leaves BodyTooLong ws rest l = are_open l.0 (refused fault.BodyTooLong refl (unsized l.1))
+  leaves Spent ws rest l = spent refl l.0 l.1
+  leaves NotBuilt ws rest l = are_open l.0 (unbuilt refl l.1)
 
-  -- one end
-  same_end : (e f : End) (count : ℕ) (rest : List ℕ) → Leaves t e count rest → Leaves t f count rest → e ≡ f
-  same_end e f count rest (closed p n r) (closed q m s) = p ∙ sym q
-  same_end e f count rest (closed p n r) (cut q m s) = absurd (requests.nothing_not_cut t (subst (IsCutShort t) r s))
-  same_end e f count rest (closed p n r) (not_built q m s) = absurd (requests.nothing_not_other t (subst (IsOfOtherForm t) r s))
-  same_end e f count rest (closed p n r) (spent q m) = absurd (omega arith)
-  same_end e f count rest (cut p n r) (closed q m s) = absurd (requests.nothing_not_cut t (subst (IsCutShort t) s r))
-  same_end e f count rest (cut p n r) (cut q m s) = p ∙ sym q
-  same_end e f count rest (cut p n r) (not_built q m s) = absurd (requests.cut_not_other t rest r s)
-  same_end e f count rest (cut p n r) (spent q m) = absurd (omega arith)
-  same_end e f count rest (not_built p n r) (closed q m s) = absurd (requests.nothing_not_other t (subst (IsOfOtherForm t) s r))
-  same_end e f count rest (not_built p n r) (cut q m s) = absurd (requests.cut_not_other t rest s r)
-  same_end e f count rest (not_built p n r) (not_built q m s) = p ∙ sym q
-  same_end e f count rest (not_built p n r) (spent q m) = absurd (omega arith)
-  same_end e f count rest (spent p n) (closed q m s) = absurd (omega arith)
-  same_end e f count rest (spent p n) (cut q m s) = absurd (omega arith)
-  same_end e f count rest (spent p n) (not_built q m s) = absurd (omega arith)
-  same_end e f count rest (spent p n) (spent q m) = p ∙ sym q
+  nothing_waits : (rest : List ℕ) → rest ≡ [] → IsUnfinished rest
+  nothing_waits rest none = subst IsUnfinished (sym none) nothing-waits
 
-  -- so many at most
-  few : (e : End) (count : ℕ) (rest : List ℕ) → Leaves t e count rest → count < suc most_requests
-  few e count rest (closed p n r) = omega arith
-  few e count rest (cut p n r) = omega arith
-  few e count rest (not_built p n r) = omega arith
-  few e count rest (spent p n) = omega arith
+  nothing_not_cut : (rest : List ℕ) → rest ≡ [] → 0 < length rest → ⊥
+  nothing_not_cut rest none some = omega (arith, ap length none, some)
 
-  -- no request stands where the bytes end before the most
-  none_left : (e : End) (count : ℕ) (bytes after rest : List ℕ) (w : Wanted) → count < most_requests → IsRequest t bytes w → rest ≡ bytes ++ after → Leaves t e count rest → ⊥
-  none_left e count bytes after rest w lt k is (closed p n r) = requests.not_nothing t bytes after w k (sym is ∙ r)
-  none_left e count bytes after rest w lt k is (cut p n r) = requests.not_cut t bytes after w k (subst (IsCutShort t) is r)
-  none_left e count bytes after rest w lt k is (not_built p n r) = requests.not_other t bytes after w k (subst (IsOfOtherForm t) is r)
-  none_left e count bytes after rest w lt k is (spent p n) = absurd (omega arith)
+  -- one end behind requests that may go on
+  same_behind : (rest : List ℕ) (e f : End) → Behind t rest e → Behind t rest f → e ≡ f
+  same_behind rest e f (nothing p r) (nothing q s) = p ∙ sym q
+  same_behind rest e f (nothing p r) (cut q some s) = absurd (nothing_not_cut rest r some)
+  same_behind rest e f (nothing p r) (refused g q s) = absurd (wait_unsaid rest (Err g) s (nothing_waits rest r))
+  same_behind rest e f (nothing p r) (unbuilt q s) = absurd (wait_unsaid rest (Ok s.request) s.has (nothing_waits rest r))
+  same_behind rest e f (cut p some r) (nothing q s) = absurd (nothing_not_cut rest s some)
+  same_behind rest e f (cut p some r) (cut q more s) = p ∙ sym q
+  same_behind rest e f (cut p some r) (refused g q s) = absurd (wait_unsaid rest (Err g) s r)
+  same_behind rest e f (cut p some r) (unbuilt q s) = absurd (wait_unsaid rest (Ok s.request) s.has r)
+  same_behind rest e f (refused g p r) (nothing q s) = absurd (wait_unsaid rest (Err g) r (nothing_waits rest s))
+  same_behind rest e f (refused g p r) (cut q some s) = absurd (wait_unsaid rest (Err g) r s)
+  same_behind rest e f (refused g p r) (refused h q s) = p ∙ (ap end_of (err_is g h (say_one rest (Err g) (Err h) r s)) ∙ sym q)
+  same_behind rest e f (refused g p r) (unbuilt q s) = absurd (not_both s.request g (say_one rest (Ok s.request) (Err g) s.has r))
+  same_behind rest e f (unbuilt p r) (nothing q s) = absurd (wait_unsaid rest (Ok r.request) r.has (nothing_waits rest s))
+  same_behind rest e f (unbuilt p r) (cut q some s) = absurd (wait_unsaid rest (Ok r.request) r.has s)
+  same_behind rest e f (unbuilt p r) (refused g q s) = absurd (not_both r.request g (say_one rest (Ok r.request) (Err g) r.has s))
+  same_behind rest e f (unbuilt p r) (unbuilt q s) = p ∙ sym q
+
+  same_end : (ws : List Wanted) (rest : List ℕ) (e f : End) → Leaves t ws rest e → Leaves t ws rest f → e ≡ f
+  same_end ws rest e f (are_open a r) (are_open b s) = same_behind rest e f r s
+  same_end ws rest e f (are_open a r) (closing q c) = absurd (not_going ws a.go_on c)
+  same_end ws rest e f (are_open a r) (spent q n all) = absurd (omega (arith, a.few, n))
+  same_end ws rest e f (closing p c) (are_open b s) = absurd (not_going ws b.go_on c)
+  same_end ws rest e f (closing p c) (closing q d) = p ∙ sym q
+  same_end ws rest e f (closing p c) (spent q n all) = absurd (not_going ws all c)
+  same_end ws rest e f (spent p n all) (are_open b s) = absurd (omega (arith, b.few, n))
+  same_end ws rest e f (spent p n all) (closing q d) = absurd (not_going ws all d)
+  same_end ws rest e f (spent p n all) (spent q m both) = p ∙ sym q
+
+  -- before a further request there may be one
+  open_before : (before : List Wanted) (w : Wanted) (after : List Wanted) (rest : List ℕ) (e : End) → Leaves t (before ++ w ∷ after) rest e → AreOpen before
+  open_before before w after rest e (are_open a r) = record {
+    few = omega (arith, a.few, length-append before (w ∷ after));
+    go_on = go_on-front before (w ∷ after) a.go_on;
+  }
+  open_before before w after rest e (closing p c) = closing-front before w after c.before c.last c.parts c.open_before
+  open_before before w after rest e (spent p n all) = record {
+    few = omega (arith, n, length-append before (w ∷ after));
+    go_on = go_on-front before (w ∷ after) all;
+  }
+
+  -- a request that stands at the front of bytes
+  abbrev has_front : (bytes after rest : List ℕ) (w : Wanted) → (k : Wants t bytes w) → rest ≡ bytes ++ after → HasRequest rest k.request
+  has_front bytes after rest w k is = record { front = bytes; rest = after; parts = is; is = k.is }
+
+  some_is_none : (w : Want) → None ≡ Some w → ⊥
+  some_is_none w e = cc
+
+  -- where a further request stands, the bytes did not end there
+  none_left : (before : List Wanted) (e : End) (bytes after rest : List ℕ) (w : Wanted) → AreOpen before → Wants t bytes w → rest ≡ bytes ++ after → Leaves t before rest e → ⊥
+  none_left before e bytes after rest w o k is (are_open a (nothing p r)) = wait_unsaid rest (Ok k.request) (has_front bytes after rest w k is) (nothing_waits rest r)
+  none_left before e bytes after rest w o k is (are_open a (cut p some r)) = wait_unsaid rest (Ok k.request) (has_front bytes after rest w k is) r
+  none_left before e bytes after rest w o k is (are_open a (refused g p r)) = not_both k.request g (say_one rest (Ok k.request) (Err g) (has_front bytes after rest w k is) r)
+  none_left before e bytes after rest w o k is (are_open a (unbuilt p r)) =
+      let same : r.request ≡ k.request = ok_is r.request k.request (say_one rest (Ok r.request) (Ok k.request) r.has (has_front bytes after rest w k is)) in
+      some_is_none w.want (sym r.want ∙ (ap (want_of t) same ∙ k.want))
+  none_left before e bytes after rest w o k is (closing p c) = not_going before o.go_on c
+  none_left before e bytes after rest w o k is (spent p n all) = omega (arith, o.few, n)
+
+  some_is : (v w : Want) → Some v ≡ Some w → v ≡ w
+  some_is v w e = cc
+
+  -- at the front of bytes stands one request, of which one thing is wanted
+  one_request : (r s after others all : List ℕ) (v w : Wanted) → Wants t r v → Wants t s w → all ≡ r ++ after → all ≡ s ++ others → (v ≡ w) × (r ≡ s)
+  one_request r s after others all v w k l left right =
+      let x = has_front r after all v k left in
+      let y = has_front s others all w l right in
+      let same : k.request ≡ l.request = ok_is k.request l.request (say_one all (Ok k.request) (Ok l.request) x y) in
+      let close : v.close ≡ w.close = k.close ∙ (ap (λ (q : Request). q.close) same ∙ sym l.close) in
+      let want : v.want ≡ w.want = some_is v.want w.want (sym k.want ∙ (ap (want_of t) same ∙ l.want)) in
+      ((λ i. record { close = close i; want = want i }), cut_one all k.request l.request x y)
 
   module _ (e f : End) where
-    same : (rs ss : List (List ℕ)) (vs ws : List Wanted) (count : ℕ) (p q : List ℕ) → AllZip (IsRequest t) rs vs → AllZip (IsRequest t) ss ws → Leaves t e (count + length vs) p → Leaves t f (count + length ws) q
-        → concat rs ++ p ≡ concat ss ++ q → (vs ≡ ws) × (e ≡ f)
-    same [] [] [] [] count p q k l a b is = (refl, same_end e f (count + 0) p a (subst (λ r. Leaves t f (count + 0) r) (sym is) b))
-    same [] (s ∷ ss) [] (w ∷ ws) count p q k l a b is =
-        absurd (none_left e (count + 0) s (concat ss ++ q) p w (omega (arith, few f (count + length (w ∷ ws)) q b)) l.0 (is ∙ append_assoc s (concat ss) q) a)
-    same (r ∷ rs) [] (v ∷ vs) [] count p q k l a b is =
-        absurd (none_left f (count + 0) r (concat rs ++ p) q v (omega (arith, few e (count + length (v ∷ vs)) p a)) k.0 (sym is ∙ append_assoc r (concat rs) p) b)
-    same (r ∷ rs) (s ∷ ss) (v ∷ vs) (w ∷ ws) count p q k l a b is =
-        let one = requests.one_request t r s (concat rs ++ p) (concat ss ++ q) v w k.0 l.0 (sym (append_assoc r (concat rs) p) ∙ (is ∙ append_assoc s (concat ss) q)) in
-        let n : count + length (v ∷ vs) ≡ suc count + length vs = omega arith in
-        let m : count + length (w ∷ ws) ≡ suc count + length ws = omega arith in
-        let more = same rs ss vs ws (suc count) p q k.1 l.1 (subst (λ c. Leaves t e c p) n a) (subst (λ c. Leaves t f c q) m b) one.1 in
+    same : (before : List Wanted) (rs ss : List (List ℕ)) (vs ws : List Wanted) (p q : List ℕ) → AllZip (Wants t) rs vs → AllZip (Wants t) ss ws
+        → Leaves t (before ++ vs) p e → Leaves t (before ++ ws) q f → concat rs ++ p ≡ concat ss ++ q → (vs ≡ ws) × (e ≡ f)
+    same before [] [] [] [] p q k l a b is = (refl, same_end (before ++ []) p e f a (subst (λ r. Leaves t (before ++ []) r f) (sym is) b))
+    same before [] (s ∷ ss) [] (w ∷ ws) p q k l a b is =
+        absurd (none_left before e s (concat ss ++ q) p w (open_before before w ws q f b) l.0 (is ∙ append_assoc s (concat ss) q) (subst (λ us. Leaves t us p e) (append-nil before) a))
+    same before (r ∷ rs) [] (v ∷ vs) [] p q k l a b is =
+        absurd (none_left before f r (concat rs ++ p) q v (open_before before v vs p e a) k.0 (sym is ∙ append_assoc r (concat rs) p) (subst (λ us. Leaves t us q f) (append-nil before) b))
+    same before (r ∷ rs) (s ∷ ss) (v ∷ vs) (w ∷ ws) p q k l a b is =
+        let whole : r ++ (concat rs ++ p) ≡ s ++ (concat ss ++ q) = sym (append_assoc r (concat rs) p) ∙ (is ∙ append_assoc s (concat ss) q) in
+        let one = one_request r s (concat rs ++ p) (concat ss ++ q) (r ++ (concat rs ++ p)) v w k.0 l.0 refl whole in
+        let behind : concat rs ++ p ≡ concat ss ++ q = append_cancel_left r (concat rs ++ p) (concat ss ++ q) (whole ∙ ap (λ x. x ++ (concat ss ++ q)) (sym one.1)) in
+        let here = subst (λ us. Leaves t us p e) (sym (append_assoc before (v ∷ []) vs)) a in
+        let there = subst (λ us. Leaves t us q f) (sym (append_assoc before (v ∷ []) ws)) (subst (λ x. Leaves t (before ++ x ∷ ws) q f) (sym one.0) b) in
+        let more = same (before ++ v ∷ []) rs ss vs ws p q k.1 l.1 here there behind in
         ((λ i. one.0 i ∷ more.0 i), more.1)
-    same [] [] [] (w ∷ ws) count p q k l a b is = absurd l
-    same [] [] (v ∷ vs) ws count p q k l a b is = absurd k
-    same [] (s ∷ ss) vs [] count p q k l a b is = absurd l
-    same [] (s ∷ ss) (v ∷ vs) (w ∷ ws) count p q k l a b is = absurd k
-    same (r ∷ rs) ss [] ws count p q k l a b is = absurd k
-    same (r ∷ rs) [] (v ∷ vs) (w ∷ ws) count p q k l a b is = absurd l
-    same (r ∷ rs) (s ∷ ss) (v ∷ vs) [] count p q k l a b is = absurd l
+    same before [] [] [] (w ∷ ws) p q k l a b is = absurd l
+    same before [] [] (v ∷ vs) ws p q k l a b is = absurd k
+    same before [] (s ∷ ss) vs [] p q k l a b is = absurd l
+    same before [] (s ∷ ss) (v ∷ vs) (w ∷ ws) p q k l a b is = absurd k
+    same before (r ∷ rs) ss [] ws p q k l a b is = absurd k
+    same before (r ∷ rs) [] (v ∷ vs) (w ∷ ws) p q k l a b is = absurd l
+    same before (r ∷ rs) (s ∷ ss) (v ∷ vs) [] p q k l a b is = absurd l
 
   -- the bytes determine what is wanted, and the end
   pub one_reading : (bytes : List ℕ) (vs ws : List Wanted) (e f : End) → AreRequests t bytes vs e → AreRequests t bytes ws f → (vs ≡ ws) × (e ≡ f)
   one_reading bytes vs ws e f a b =
-      let n : length vs ≡ 0 + length vs = omega arith in
-      let m : length ws ≡ 0 + length ws = omega arith in
-      same e f a.requests b.requests vs ws 0 a.rest b.rest a.each b.each
-      (subst (λ c. Leaves t e c a.rest) n (leaves e (length vs) a.rest a.leaves)) (subst (λ c. Leaves t f c b.rest) m (leaves f (length ws) b.rest b.leaves))
-      (sym a.bytes_are ∙ b.bytes_are)
+      same e f [] a.requests b.requests vs ws a.rest b.rest a.each b.each (leaves e vs a.rest a.leaves) (leaves f ws b.rest b.leaves) (sym a.bytes_are ∙ b.bytes_are)
 
-  -- where the bytes ended the reading, more of them end it alike
-  pub not_built_more : (bytes after : List ℕ) (ws : List Wanted) → AreRequests t bytes ws NotBuilt → AreRequests t (bytes ++ after) ws NotBuilt
-  not_built_more bytes after ws a = record {
+  -- more bytes behind
+  more : (end : End) (bytes after : List ℕ) (ws : List Wanted) → ((rest : List ℕ) → LeavesAt t end ws rest → LeavesAt t end ws (rest ++ after)) → AreRequests t bytes ws end → AreRequests t (bytes ++ after) ws end
+  more end bytes after ws stays a = record {
     requests = a.requests;
     rest = a.rest ++ after;
     bytes_are = ap (λ b. b ++ after) a.bytes_are ∙ append_assoc (concat a.requests) a.rest after;
     each = a.each;
-    leaves = (a.leaves.0, requests.other_more t a.rest after a.leaves.1);
+    leaves = stays a.rest a.leaves;
   }
+
+  unbuilt_more : (bytes after : List ℕ) → IsUnbuilt t bytes → IsUnbuilt t (bytes ++ after)
+  unbuilt_more bytes after u = record { request = u.request; has = stay_said bytes after (Ok u.request) u.has; want = u.want }
+
+  pub close_asked_more : (bytes after : List ℕ) (ws : List Wanted) → AreRequests t bytes ws CloseAsked → AreRequests t (bytes ++ after) ws CloseAsked
+  close_asked_more bytes after ws a = more CloseAsked bytes after ws (λ rest l. l) a
+
+  pub bad_head_more : (bytes after : List ℕ) (ws : List Wanted) → AreRequests t bytes ws BadHead → AreRequests t (bytes ++ after) ws BadHead
+  bad_head_more bytes after ws a = more BadHead bytes after ws (λ rest l. (l.0, heads_stay.bad_head rest after l.1)) a
+
+  pub long_head_more : (bytes after : List ℕ) (ws : List Wanted) → AreRequests t bytes ws HeadTooLong → AreRequests t (bytes ++ after) ws HeadTooLong
+  long_head_more bytes after ws a = more HeadTooLong bytes after ws (λ rest l. (l.0, heads_stay.long_head rest after l.1)) a
+
+  pub no_length_more : (bytes after : List ℕ) (ws : List Wanted) → AreRequests t bytes ws NoLength → AreRequests t (bytes ++ after) ws NoLength
+  no_length_more bytes after ws a = more NoLength bytes after ws (λ rest l. (l.0, heads_stay.head rest after (Err fault.NoLength) l.1)) a
+
+  pub long_body_more : (bytes after : List ℕ) (ws : List Wanted) → AreRequests t bytes ws BodyTooLong → AreRequests t (bytes ++ after) ws BodyTooLong
+  long_body_more bytes after ws a = more BodyTooLong bytes after ws (λ rest l. (l.0, heads_stay.head rest after (Err fault.BodyTooLong) l.1)) a
 
   pub spent_more : (bytes after : List ℕ) (ws : List Wanted) → AreRequests t bytes ws Spent → AreRequests t (bytes ++ after) ws Spent
-  spent_more bytes after ws a = record {
-    requests = a.requests;
-    rest = a.rest ++ after;
-    bytes_are = ap (λ b. b ++ after) a.bytes_are ∙ append_assoc (concat a.requests) a.rest after;
-    each = a.each;
-    leaves = a.leaves;
-  }
+  spent_more bytes after ws a = more Spent bytes after ws (λ rest l. l) a
+
+  pub not_built_more : (bytes after : List ℕ) (ws : List Wanted) → AreRequests t bytes ws NotBuilt → AreRequests t (bytes ++ after) ws NotBuilt
+  not_built_more bytes after ws a = more NotBuilt bytes after ws (λ rest l. (l.0, unbuilt_more rest after l.1)) a

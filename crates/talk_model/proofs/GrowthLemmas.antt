@@ -10,6 +10,7 @@ use Rattle.board_model.specs.Asks.{sight, answer, made, makes, commits_by}
 use Rattle.talk_model.specs.declared.marks.At.{At}
 use Rattle.talk_model.specs.declared.marks.Mark.{Mark}
 use Rattle.talk_model.specs.Requests.{Wanted}
+use Rattle.talk_model.specs.Given.{given_of}
 use Rattle.talk_model.specs.Calls.{Asked, asks_of, reply_of}
 use Rattle.talk_model.specs.Marks.{SeatsStay, base_of, IsAtOf, IsMarkOf, AreMarksOf, marked_by, marked}
 use Rattle.talk_model.specs.Talk.{answers_at, talk}
@@ -54,7 +55,7 @@ module _ (old new : ℕ → Option ℕ) (entry h now : Histories Event) (grown :
   ats-grown (at ∷ ats) (a ∷ askeds) k = (at-grown at a k.0, ats-grown ats askeds k.1)
 
   mark-grown : (number : ℕ) (m : Mark) (w : Wanted) → IsMarkOf old number entry h m w → IsMarkOf new number entry now m w
-  mark-grown number m w k = record { request = k.request; words = k.words; drawn = k.drawn; asks = ats-grown m.asks.items (asks_of w m.moment) k.asks }
+  mark-grown number m w k = record { request = k.request; words = k.words; asks = ats-grown m.asks.items (asks_of w (given_of m)) k.asks }
 
   pub marks-grown : (number : ℕ) (marks : List Mark) (ws : List Wanted) → AreMarksOf old number entry h marks ws → AreMarksOf new number entry now marks ws
   marks-grown number [] [] k = tt
@@ -75,8 +76,8 @@ module _ (old new : ℕ → Option ℕ) (entry h now : Histories Event) (grown :
   talk-grown number [] (w ∷ ws) k = refl
   talk-grown number (m ∷ marks) [] k = refl
   talk-grown number (m ∷ marks) (w ∷ ws) k =
-      let same = answers-grown m.asks.items (asks_of w m.moment) (k.0).asks in
-      λ i. reply_of w (same i) ++ talk-grown (suc number) marks ws k.1 i
+      let same = answers-grown m.asks.items (asks_of w (given_of m)) (k.0).asks in
+      λ i. reply_of w (given_of m) (same i) ++ talk-grown (suc number) marks ws k.1 i
 
   one-grown : (lock : ℕ) (at : At) → at.len ≤ length (h at.lock) → marked_by lock (now lock) at ≡ marked_by lock (h lock) at
   one-grown lock at le = by_lock (at.lock == lock) refl

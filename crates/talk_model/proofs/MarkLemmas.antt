@@ -7,8 +7,9 @@ use Rattle.zone_model.specs.Histories.{Histories}
 use Rattle.talk_model.specs.declared.marks.At.{At}
 use Rattle.talk_model.specs.declared.marks.Mark.{Mark}
 use Rattle.talk_model.specs.Requests.{Wanted}
+use Rattle.talk_model.specs.Given.{given_of, givens_of}
 use Rattle.talk_model.specs.Calls.{Asked, asks_of}
-use Rattle.talk_model.specs.Marks.{IsAtOf, IsMarkOf, AreMarksOf, moments_of, asks_in, NotBefore, AreInOrder, marked_by, marked}
+use Rattle.talk_model.specs.Marks.{IsAtOf, IsMarkOf, AreMarksOf, asks_in, NotBefore, AreInOrder, marked_by, marked}
 use Rattle.talk_model.specs.Talk.{reply_at, talk}
 
 pub all-snoc : {X : Type 0} (P : X → Type 0) (xs : List X) (x : X) → AllByRecursion P xs → P x → AllByRecursion P (xs ++ x ∷ [])
@@ -37,9 +38,9 @@ pub asks_in-snoc : (marks : List Mark) (m : Mark) → asks_in (marks ++ m ∷ []
 asks_in-snoc [] m = append-nil m.asks.items
 asks_in-snoc (a ∷ marks) m = ap (λ b. a.asks.items ++ b) (asks_in-snoc marks m) ∙ sym (append_assoc a.asks.items (asks_in marks) m.asks.items)
 
-pub moments_of-snoc : (marks : List Mark) (m : Mark) → moments_of (marks ++ m ∷ []) ≡ moments_of marks ++ m.moment ∷ []
-moments_of-snoc [] m = refl
-moments_of-snoc (a ∷ marks) m = ap (λ b. a.moment ∷ b) (moments_of-snoc marks m)
+pub givens_of-snoc : (marks : List Mark) (m : Mark) → givens_of (marks ++ m ∷ []) ≡ givens_of marks ++ given_of m ∷ []
+givens_of-snoc [] m = refl
+givens_of-snoc (a ∷ marks) m = ap (λ b. given_of a ∷ b) (givens_of-snoc marks m)
 
 pub order-snoc : (ats : List At) (at : At) → AreInOrder ats → AllByRecursion (λ a. NotBefore a at) ats → AreInOrder (ats ++ at ∷ [])
 order-snoc [] at ordered all = (tt, tt)
@@ -81,4 +82,4 @@ module _ (seats : ℕ → Option ℕ) (entry h : Histories Event) where
   pub marks-within : (number : ℕ) (marks : List Mark) (ws : List Wanted) → AreMarksOf seats number entry h marks ws → AllByRecursion (λ (at : At). at.len ≤ length (h at.lock)) (asks_in marks)
   marks-within number [] ws k = tt
   marks-within number (m ∷ marks) [] k = absurd k
-  marks-within number (m ∷ marks) (w ∷ ws) k = all-append _ m.asks.items (asks_in marks) (ats-within m.asks.items (asks_of w m.moment) (k.0).asks) (marks-within (suc number) marks ws k.1)
+  marks-within number (m ∷ marks) (w ∷ ws) k = all-append _ m.asks.items (asks_in marks) (ats-within m.asks.items (asks_of w (given_of m)) (k.0).asks) (marks-within (suc number) marks ws k.1)

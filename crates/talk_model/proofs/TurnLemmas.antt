@@ -11,7 +11,7 @@ use Rattle.zone_model.specs.declared.events.Event.{Event}
 use Rattle.zone_model.specs.declared.commits.Commit.{Commit}
 use Rattle.zone_model.specs.Histories.{Histories, IsFront, Grows}
 use Rattle.zone_model.specs.Events.{origin_of, own, own_of}
-use Rattle.zone_model.specs.Lawful.{is_legal}
+use Rattle.zone_model.specs.Legal.{IsLegal}
 use Rattle.board_model.specs.declared.parts.Part.{Part}
 use Rattle.board_model.specs.declared.answers.Answered.{Answered}
 use Rattle.board_model.specs.Asks.{event_of, made, makes, commits_by}
@@ -63,10 +63,10 @@ module _ (alone : Type 0) (seats seats2 : ℕ → Option ℕ) (old new : Histori
         (λ ne. t.other_seats k ne ∙ e)
 
     -- legal histories stay so
-    pub turn_legal : (k : ℕ) → is_legal k (old k) ≡ true → is_legal k (new k) ≡ true
+    pub turn_legal : (k : ℕ) → IsLegal k (old k) → IsLegal k (new k)
     turn_legal k was = dite (ℕ_discrete k lock)
-        (λ e. subst (λ j. is_legal j (new j) ≡ true) (sym e) t.legal)
-        (λ ne. ap (is_legal k) (t.others k ne) ∙ was)
+        (λ e. subst (λ j. IsLegal j (new j)) (sym e) t.legal)
+        (λ ne. subst (IsLegal k) (sym (t.others k ne)) was)
 
     -- the own events of a turn are those that it added
     pub own_at : (l : ℕ) → l ≤ length (old lock) → own t.seat t.added ≡ t.added → own_of (seats2 lock) (drop l (new lock)) ≡ own_of (seats lock) (drop l (old lock)) ++ t.added

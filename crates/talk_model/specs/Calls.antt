@@ -1,14 +1,41 @@
 -- What a request asks of the locks, and what is replied, given the answers.
-use Rattle.std.specs.Prelude.{ℕ, true, List, [], ◌∷◌}
+use Rattle.std.specs.Prelude.{ℕ, Bool, List, [], ◌∷◌, map, zip, Option, None, Some, if◌then◌else◌}
+use Rattle.serde_json.specs.Written.{compact_text}
 use Rattle.ck_base.specs.Names.{lock_of_names}
 use Rattle.ck_base.specs.declared.key.ZoneKey.{ZoneKey}
-use Rattle.ck_base.specs.declared.scope.Scope.TheVariants.{Private}
+use Rattle.ck_base.specs.declared.scope.Scope.{Scope}
+use Rattle.ck_base.specs.declared.scope.Scope.TheVariants as scope
+use Rattle.ck_base.specs.declared.route.Database.{Database}
+use Rattle.ck_base.specs.declared.route.Database.TheVariants.{Private, Shared, Public}
+use Rattle.ck_records.specs.declared.records.Record.{Record}
+use Rattle.ck_records.specs.Cutting.{cut}
+use Rattle.zone_model.specs.declared.outcomes.OpFault.{OpFault}
+use Rattle.zone_model.specs.declared.outcomes.OpFault.TheVariants as fault
+use Rattle.zone_model.specs.declared.outcomes.Outcome.{Outcome}
+use Rattle.zone_model.specs.declared.outcomes.Outcome.TheVariants.{Put, Deleted, Refused as RefusedOp}
+use Rattle.modify_ops.specs.Drawing.{names_of}
 use Rattle.board_model.specs.declared.parts.Part.{Part}
-use Rattle.board_model.specs.declared.parts.Part.TheVariants.{Modify}
+use Rattle.board_model.specs.declared.parts.Part.TheVariants as part
 use Rattle.board_model.specs.declared.answers.Answer.{Answer}
-use Rattle.board_model.specs.declared.answers.Answer.TheVariants.{Modify as ModifyAnswer}
-use Rattle.talk_model.specs.Requests.{Wanted, default_key}
-use Rattle.talk_model.specs.Replies.{modify_text}
+use Rattle.board_model.specs.declared.answers.Answer.TheVariants as answer
+use Rattle.error_replies.specs.declared.errors.ServerError.{ServerError}
+use Rattle.error_replies.specs.declared.errors.ServerError.TheVariants.{AccessDenied, AtomicError, BadRequest, Conflict, Exists, NotFound, TryAgainLater, ValidatingReferenceError, ZoneNotFound}
+use Rattle.wire_calls.specs.declared.call.ModifyCall.{ModifyCall}
+use Rattle.wire_calls.specs.declared.call.LookupCall.{LookupCall}
+use Rattle.wire_calls.specs.declared.call.Call.{Call}
+use Rattle.wire_calls.specs.declared.call.Call.TheVariants.{Modify, Lookup}
+use Rattle.wire_calls.specs.declared.reply.RecordEntry.{RecordEntry}
+use Rattle.wire_calls.specs.declared.reply.RecordEntry.TheVariants.{There, Gone, Failed, Conflict as InConflict}
+use Rattle.wire_calls.specs.declared.reply.Reply.{Reply}
+use Rattle.wire_calls.specs.declared.reply.Reply.TheVariants.{Modify as ModifyReply, Lookup as LookupReply, Refused}
+use Rattle.wire_calls.specs.Replies.{reply_data, reply_status}
+use Rattle.http_front.specs.Replies.{reply_text}
+use Rattle.talk_model.specs.declared.wants.Want.{Want}
+use Rattle.talk_model.specs.declared.wants.Want.TheVariants.{Refused as RefusedWant, Called}
+use Rattle.talk_model.specs.Requests.{Wanted}
+use Rattle.talk_model.specs.Given.{Given}
+
+-- ---- what is asked
 
 -- a part, and the lock that is asked
 pub record Asked : Type 0 where
@@ -19,13 +46,86 @@ pub record Asked : Type 0 where
 abbrev pub lock_of_zone : ZoneKey → ℕ
 lock_of_zone key = lock_of_names key.owner key.zone
 
--- what is asked for a request at a moment: its operations, of the caller's default zone
-abbrev pub asks_of : Wanted → ℕ → List Asked
-asks_of w moment =
-    let key = default_key w.caller in
-    record { lock = lock_of_zone key; part = Modify w.caller Private key true w.ops moment } ∷ []
+-- the scope of a database; the public one has calls on share links alone
+abbrev pub scope_of : Database → Scope
+scope_of Private = scope.Private
+scope_of Shared = scope.Shared
+scope_of Public = scope.Shared
 
--- the bytes of the reply to a request whose asks have these answers, of which a modify has one
-abbrev pub reply_of : Wanted → List Answer → List ℕ
-reply_of w (ModifyAnswer outcomes ∷ []) = modify_text w.ops outcomes
-reply_of w answers = []
+-- what a call asks
+abbrev pub part_of : Call → Given → Part
+part_of (Modify c) g = part.Modify c.caller (scope_of c.database) c.zone c.atomic c.ops g.moment g.words
+part_of (Lookup c) g = part.Lookup c.caller (scope_of c.database) c.zone c.names
+
+abbrev pub zone_of : Call → ZoneKey
+zone_of (Modify c) = c.zone
+zone_of (Lookup c) = c.zone
+
+-- what is asked for a request: nothing where it is refused, or a draw failed
+abbrev pub asks_by : Want → Given → List Asked
+asks_by (RefusedWant error) g = []
+asks_by (Called call) g = if g.drawn then record { lock = lock_of_zone (zone_of call); part = part_of call g } ∷ [] else []
+
+abbrev pub asks_of : Wanted → Given → List Asked
+asks_of w g = asks_by w.want g
+
+-- ---- what is replied
+
+-- the error that tells a fault
+abbrev pub error_of : OpFault → ServerError
+error_of fault.Exists = Exists
+error_of fault.NotFound = NotFound
+error_of fault.Conflict = Conflict
+error_of fault.BadRequest = BadRequest
+error_of fault.AccessDenied = AccessDenied
+error_of fault.Validating = ValidatingReferenceError
+error_of fault.Atomic = AtomicError
+
+-- the entry of an operation on the record of that name
+abbrev pub entry_of : List ℕ × Outcome → RecordEntry
+entry_of (name, Put r) = There r
+entry_of (name, Deleted x) = Gone x
+entry_of (name, RefusedOp fault None) = Failed (error_of fault) name
+entry_of (name, RefusedOp fault (Some r)) = InConflict name r
+
+-- the record with the fields that are wanted, or all
+abbrev pub shown : Option (List (List ℕ)) → Record → Record
+shown None r = r
+shown (Some keys) r = cut keys r
+
+-- the entry of a name that was looked up
+abbrev pub found_entry : Option (List (List ℕ)) → List ℕ × Option Record → RecordEntry
+found_entry keys (name, None) = Failed NotFound name
+found_entry keys (name, Some r) = There (shown keys r)
+
+abbrev pub modify_reply : ModifyCall → Given → List Answer → Reply
+modify_reply c g (answer.Modify outcomes ∷ []) = ModifyReply (record {
+  zone = c.zone;
+  numbers_as_strings = c.numbers_as_strings;
+  entries = map entry_of (zip (names_of c.ops g.words) outcomes);
+})
+modify_reply c g answers = Refused ZoneNotFound
+
+abbrev pub lookup_reply : LookupCall → List Answer → Reply
+lookup_reply c (answer.Lookup records ∷ []) = LookupReply (record {
+  zone = c.zone;
+  numbers_as_strings = c.numbers_as_strings;
+  entries = map (found_entry c.desired_keys) (zip c.names records);
+})
+lookup_reply c answers = Refused ZoneNotFound
+
+-- a call has one answer, which may be that there is no such zone
+abbrev pub reply_to : Call → Given → List Answer → Reply
+reply_to (Modify c) g answers = modify_reply c g answers
+reply_to (Lookup c) g answers = lookup_reply c answers
+
+abbrev pub reply_for : Want → Given → List Answer → Reply
+reply_for (RefusedWant error) g answers = Refused error
+reply_for (Called call) g answers = if g.drawn then reply_to call g answers else Refused TryAgainLater
+
+-- the bytes of a reply
+abbrev pub text_of : Bool → Reply → List ℕ
+text_of close r = reply_text (reply_status r) (compact_text (reply_data r)) close
+
+abbrev pub reply_of : Wanted → Given → List Answer → List ℕ
+reply_of w g answers = text_of w.close (reply_for w.want g answers)

@@ -1,7 +1,7 @@
 -- The bytes of a connection say what is wanted of it, and how it ends.
 use Rattle.std.specs.Prelude.{◌≡◌, ℕ, List, ◌++◌}
 use Rattle.talk_model.specs.declared.ends.End.{End}
-use Rattle.talk_model.specs.Tables.{Table}
+use Rattle.http_front.specs.Users.{Table}
 use Rattle.talk_model.specs.Requests.{Wanted}
 use Rattle.talk_model.specs.Connections.{AreRequests}
 

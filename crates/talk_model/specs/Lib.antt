@@ -1,17 +1,7 @@
--- the table of users, and what a web token stands for
-pub mod Tables
--- members of JSON objects
-pub mod Members
--- where a head ends, and what it means
-pub mod Heads
--- what a body means
-pub mod Bodies
--- which bytes are a request
+-- what is wanted of a request, and by whom
 pub mod Requests
--- the errors of the service
-pub mod Errors
--- what is replied
-pub mod Replies
+-- what the clock and the random words gave for a request
+pub mod Given
 -- what a request asks of the locks, and what is replied, given the answers
 pub mod Calls
 -- the requests at the front of the bytes of a connection, and its end

@@ -1,5 +1,5 @@
 -- When marks fit requests and the histories of the locks.
-use Rattle.std.specs.Prelude.{◌≡◌, ℕ, suc, ◌-◌, ◌<◌, ◌≤◌, ◌&&◌, ◌==◌, true, List, [], ◌∷◌, ◌++◌, length, map, take, drop, Option, Some, if◌then◌else◌, ⊤}
+use Rattle.std.specs.Prelude.{◌≡◌, ℕ, suc, ◌-◌, ◌<◌, ◌≤◌, ◌&&◌, ◌==◌, true, List, [], ◌∷◌, ◌++◌, length, take, drop, Option, Some, if◌then◌else◌, ⊤}
 use Rattle.std.specs.List.{AllByRecursion, AllZip, flat_map}
 use Rattle.zone_model.specs.declared.events.Event.{Event}
 use Rattle.zone_model.specs.Histories.{Histories}
@@ -8,6 +8,7 @@ use Rattle.board_model.specs.Asks.{made, makes, commits_by}
 use Rattle.talk_model.specs.declared.marks.At.{At}
 use Rattle.talk_model.specs.declared.marks.Mark.{Mark}
 use Rattle.talk_model.specs.Requests.{Wanted}
+use Rattle.talk_model.specs.Given.{given_of, AreWordsFor}
 use Rattle.talk_model.specs.Calls.{Asked, asks_of}
 
 -- the seat that a board has at a lock stays
@@ -30,12 +31,11 @@ pub record IsAtOf (seats : ℕ → Option ℕ) (entry now : Histories Event) (at
   pub event : at.event ≡ makes (commits_by (base_of now at) asked.part)
   pub event_is : take at.len (now at.lock) ≡ base_of now at ++ made seat (base_of now at) asked.part
 
--- The mark tells a request: its number, and each of its asks at the moment that it tells. No request draws a word yet.
+-- The mark tells a request: its number, the words that were drawn for it, and each of its asks.
 pub record IsMarkOf (seats : ℕ → Option ℕ) (number : ℕ) (entry now : Histories Event) (m : Mark) (w : Wanted) : Type 0 where
   pub request : m.request ≡ number
-  pub words : m.words.items ≡ []
-  pub drawn : m.drawn ≡ true
-  pub asks : AllZip (IsAtOf seats entry now) m.asks.items (asks_of w m.moment)
+  pub words : AreWordsFor w.want (given_of m)
+  pub asks : AllZip (IsAtOf seats entry now) m.asks.items (asks_of w (given_of m))
 
 -- one mark for each request, in order, counted from this number
 abbrev pub AreMarksOf : (ℕ → Option ℕ) → ℕ → Histories Event → Histories Event → List Mark → List Wanted → Type 0
@@ -43,10 +43,6 @@ AreMarksOf seats number entry now [] [] = ⊤
 AreMarksOf seats number entry now [] (w ∷ ws) = ⊥
 AreMarksOf seats number entry now (m ∷ marks) [] = ⊥
 AreMarksOf seats number entry now (m ∷ marks) (w ∷ ws) = IsMarkOf seats number entry now m w × AreMarksOf seats (suc number) entry now marks ws
-
--- the moments of the marks, in order
-abbrev pub moments_of : List Mark → List ℕ
-moments_of marks = map (λ m. m.moment) marks
 
 -- the asks of the marks, in order
 abbrev pub asks_in : List Mark → List At

@@ -1,64 +1,114 @@
--- Which bytes are a request, and which can be none.
--- A request is a head and the body whose length it states (RFC 9112, section 6.2), as JSON (RFC 8259).
-use Rattle.std.specs.Prelude.{◌≡◌, ℕ, ◌+◌, ◌<◌, ◌≤◌, List, [], ◌++◌, length, take, drop, None, Some, IsUtf8}
-use Rattle.httparse.specs.Grammar.{RequestHead, ReadsRequest}
+-- What is wanted of a request, and by whom.
+use Rattle.std.specs.Prelude.{◌≡◌, ℕ, Bool, true, false, ◌&&◌, List, Option, None, Some, Result, Ok, Err, if◌then◌else◌}
+use Rattle.std.specs.List.{list_all}
+use Rattle.std.specs.Str.{is_utf8}
 use Rattle.serde_json.specs.Data.{Data}
 use Rattle.serde_json.specs.Read.{read}
 use Rattle.ck_base.specs.declared.key.ZoneKey.{ZoneKey}
-use Rattle.zone_model.specs.declared.operations.Op.{Op}
-use Rattle.zone_model.specs.Zones.{default_zone}
-use Rattle.talk_model.specs.Tables.{Table}
-use Rattle.talk_model.specs.Heads.{head_end, most_head, head_meaning}
-use Rattle.talk_model.specs.Bodies.{ops_in}
+use Rattle.ck_base.specs.declared.route.Database.{Database}
+use Rattle.ck_base.specs.declared.route.Database.TheVariants.{Private, Shared, Public}
+use Rattle.ck_base.specs.declared.route.Operation.{Operation}
+use Rattle.ck_base.specs.declared.route.Operation.TheVariants.{RecordsModify, RecordsLookup}
+use Rattle.ck_base.specs.declared.route.Route.{Route}
+use Rattle.zone_model.specs.Names.{same, is_default}
+use Rattle.zone_model.specs.PlainCreates.{is_plain_create}
+use Rattle.error_replies.specs.declared.errors.ServerError.{ServerError}
+use Rattle.error_replies.specs.declared.errors.ServerError.TheVariants.{BadRequest, AuthenticationFailed, AuthenticationRequired}
+use Rattle.wire_calls.specs.declared.call.Call.{Call}
+use Rattle.wire_calls.specs.declared.call.Call.TheVariants.{Modify, Lookup}
+use Rattle.wire_calls.specs.declared.fault.BadCall.{BadCall}
+use Rattle.wire_calls.specs.declared.fault.BadCall.TheVariants.{NotBuilt}
+use Rattle.wire_calls.specs.Calls.{call_of}
+use Rattle.talk_model.specs.declared.wants.Caller.{Caller}
+use Rattle.talk_model.specs.declared.wants.Want.{Want}
+use Rattle.talk_model.specs.declared.wants.Want.TheVariants.{Refused, Called}
+use Rattle.http_front.specs.declared.request.Request.{Request}
+use Rattle.http_front.specs.declared.route.RouteFault.{RouteFault}
+use Rattle.http_front.specs.declared.caller.CallerFault.{CallerFault}
+use Rattle.http_front.specs.declared.caller.CallerFault.TheVariants.{Failed, Required, NoMemory}
+use Rattle.http_front.specs.Users.{Table}
+use Rattle.http_front.specs.Routes.{route_of}
+use Rattle.http_front.specs.Callers.{caller_of}
+use Rattle.http_front.specs.Requests.{IsRequest}
+use Rattle.http_front.specs.Laws.{HasRequest}
 
--- what a request asks, and who asks
+-- what is wanted, and whether the connection is to be closed behind the reply
 pub record Wanted : Type 0 where
-  pub caller : List ℕ
-  pub ops : List Op
+  pub close : Bool
+  pub want : Want
 
--- The bytes are a head, as `httparse` reads it, of this meaning.
-pub record IsHead (t : Table) (bytes : List ℕ) (meaning : List ℕ × ℕ) : Type 0 where
-  pub head : RequestHead
-  pub reads : ReadsRequest bytes head []
-  pub means : head_meaning t head ≡ Some meaning
+-- ---- the refusals ahead of the body
 
--- the zone that a user has from the start
-abbrev pub default_key : List ℕ → ZoneKey
-default_key user = record { owner = user; zone = default_zone }
+-- why a target has no caller; no target has none for want of memory
+abbrev pub error_of_caller : CallerFault → ServerError
+error_of_caller Failed = AuthenticationFailed
+error_of_caller Required = AuthenticationRequired
+error_of_caller NoMemory = AuthenticationFailed
 
--- The bytes are JSON, as `serde_json` reads it, of this meaning.
-pub record IsBody (key : ZoneKey) (bytes : List ℕ) (ops : List Op) : Type 0 where
-  pub text : IsUtf8 bytes
-  pub json : Data
-  pub reads : read bytes ≡ Some json
-  pub means : ops_in key json ≡ Some ops
+abbrev pub caller_with : Route → Result (List ℕ) CallerFault → Result Caller ServerError
+caller_with route (Ok user) = Ok (record { route = route; user = user })
+caller_with route (Err fault) = Err (error_of_caller fault)
 
--- The bytes are a whole request: a head that ends at its first empty line, and then the body of the length that it states.
-pub record IsRequest (t : Table) (bytes : List ℕ) (w : Wanted) : Type 0 where
-  pub head : List ℕ
-  pub body : List ℕ
-  pub whole : bytes ≡ head ++ body
-  pub ends : head_end head ≡ Some (length head)
-  pub short : length head ≤ most_head
-  pub means : IsHead t head (w.caller, length body)
-  pub asks : IsBody (default_key w.caller) body w.ops
+abbrev pub caller_at : Table → List ℕ → Result Route RouteFault → Result Caller ServerError
+caller_at t target (Err fault) = Err BadRequest
+caller_at t target (Ok route) = caller_with route (caller_of t target)
 
--- There is a head at the front, and it states a body of that length.
-pub record HasHead (t : Table) (bytes : List ℕ) (size : ℕ) : Type 0 where
-  pub caller : List ℕ
-  pub len : ℕ
-  pub ends : head_end bytes ≡ Some len
-  pub short : len ≤ most_head
-  pub within : len ≤ length bytes
-  pub means : IsHead t (take len bytes) (caller, size)
+-- the route comes before the tokens
+abbrev pub caller_in : Table → Request → Result Caller ServerError
+caller_in t r = caller_at t r.target (route_of r.method r.target)
 
--- No front of the bytes is a request, and none will be: the head has another form, or is too long, or the body has another form.
-pub data IsOfOtherForm (t : Table) (bytes : List ℕ) : Type 0 where
-  other_head : (len : ℕ) → head_end bytes ≡ Some len → len ≤ most_head → ((meaning : List ℕ × ℕ) → ¬ IsHead t (take len bytes) meaning) → IsOfOtherForm t bytes
-  long_head : most_head ≤ length bytes → ((len : ℕ) → head_end bytes ≡ Some len → most_head < len) → IsOfOtherForm t bytes
-  other_body : (size : ℕ) → (h : HasHead t bytes size) → h.len + size ≤ length bytes → ((ops : List Op) → ¬ IsBody (default_key h.caller) (take size (drop h.len bytes)) ops) → IsOfOtherForm t bytes
+-- ---- what is built
 
--- The bytes end too early: they have no end of a head yet, or a head, and behind it less than its body.
-pub data IsCutShort (t : Table) (bytes : List ℕ) : Type 0 where
-  in_head : 0 < length bytes → length bytes < most_head → head_end bytes ≡ None → IsCutShort t bytes
-  in_body : (size : ℕ) → (h : HasHead t bytes size) → length bytes < h.len + size → IsCutShort t bytes
+abbrev pub is_private : Database → Bool
+is_private Private = true
+is_private Shared = false
+is_private Public = false
+
+abbrev pub is_built_operation : Operation → Bool
+is_built_operation RecordsModify = true
+is_built_operation RecordsLookup = true
+is_built_operation _ = false
+
+-- modify and lookup of the private database
+abbrev pub is_built_route : Route → Bool
+is_built_route route = is_private route.database && is_built_operation route.operation
+
+abbrev pub is_own_default : List ℕ → ZoneKey → Bool
+is_own_default caller key = same caller key.owner && is_default key
+
+-- calls of the caller's default zone in the private database, and of those that modify creates of records that go with no other
+abbrev pub is_built : Call → Bool
+is_built (Modify c) = is_private c.database && (is_own_default c.caller c.zone && list_all is_plain_create c.ops)
+is_built (Lookup c) = is_private c.database && is_own_default c.caller c.zone
+
+-- ---- the body
+
+-- the JSON that bytes are (RFC 8259), as `serde_json` reads it, if they are any
+abbrev pub json_of : List ℕ → Option Data
+json_of bytes = if is_utf8 bytes then read bytes else None
+
+abbrev pub want_of_call : Result Call BadCall → Option Want
+want_of_call (Err NotBuilt) = None
+want_of_call (Err fault) = Some (Refused BadRequest)
+want_of_call (Ok call) = if is_built call then Some (Called call) else None
+
+abbrev pub want_by : Result Caller ServerError → Option Data → Option Want
+want_by (Err error) json = Some (Refused error)
+want_by (Ok caller) json = if is_built_route caller.route then want_of_call (call_of caller.route caller.user json) else None
+
+-- what is wanted of a request, or nothing where its form is not built
+abbrev pub want_of : Table → Request → Option Want
+want_of t r = want_by (caller_in t r) (json_of r.body)
+
+-- The bytes are a whole request, of which this is wanted.
+pub record Wants (t : Table) (bytes : List ℕ) (w : Wanted) : Type 0 where
+  pub request : Request
+  pub is : IsRequest bytes request
+  pub close : w.close ≡ request.close
+  pub want : want_of t request ≡ Some w.want
+
+-- A request stands at the front of the bytes, and its form is not built.
+pub record IsUnbuilt (t : Table) (bytes : List ℕ) : Type 0 where
+  pub request : Request
+  pub has : HasRequest bytes request
+  pub want : want_of t request ≡ None

@@ -7,6 +7,7 @@ use Rattle.board_model.specs.Asks.{sight, answer}
 use Rattle.talk_model.specs.declared.marks.At.{At}
 use Rattle.talk_model.specs.declared.marks.Mark.{Mark}
 use Rattle.talk_model.specs.Requests.{Wanted}
+use Rattle.talk_model.specs.Given.{given_of}
 use Rattle.talk_model.specs.Calls.{Asked, asks_of, reply_of}
 use Rattle.talk_model.specs.Marks.{base_of}
 
@@ -18,7 +19,7 @@ answers_at h (at ∷ ats) (a ∷ askeds) = answer (sight (base_of h at) a.part) 
 
 -- the reply to a request with this mark
 abbrev pub reply_at : Histories Event → Mark → Wanted → List ℕ
-reply_at h m w = reply_of w (answers_at h m.asks.items (asks_of w m.moment))
+reply_at h m w = reply_of w (given_of m) (answers_at h m.asks.items (asks_of w (given_of m)))
 
 -- the replies, one after another
 abbrev pub talk : List Wanted → List Mark → Histories Event → List ℕ

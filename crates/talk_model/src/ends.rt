@@ -16,7 +16,7 @@ pub enum End {
     BadHead,
     /// A head is longer than the limits allow.
     HeadTooLong,
-    /// A head states no length of a body, or more than one.
+    /// A head states no valid length of a body where it has to, more than one, or a transfer coding.
     NoLength,
     /// A head states a body that is longer than the limit allows.
     BodyTooLong,
@@ -26,7 +26,8 @@ pub enum End {
     NotBuilt,
 }
 
-/// A conversation that ended: a mark for each whole request, in order, and the end.
+/// A conversation that ended: a mark for each request that was answered, in order, and the
+/// end.
 #[derive(Debug, Drop)]
 pub struct Talk {
     pub marks: Vec<Mark>,

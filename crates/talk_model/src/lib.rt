@@ -3,11 +3,11 @@
 #![tactic(auto)]
 
 mod ends;
-mod errors;
 mod laws;
 mod marks;
+mod wants;
 
 pub use ends::{End, Talk, TalkFault, TalkFaultKind};
-pub use errors::ServerError;
 pub use laws::bytes_have_one_reading;
 pub use marks::{At, Mark};
+pub use wants::{Caller, Want};

@@ -14,7 +14,7 @@ use Rattle.ck_records.specs.Writing.{named_data}
 use Rattle.ck_records.proofs.ObjectLemmas.{Listed}
 use Rattle.ck_records.proofs.LookupLemmas.{listed, get_present}
 use Rattle.ck_records.proofs.ReadsBackLemmas.{name_told, there}
-use Rattle.zone_rules.specs.declared.operations.Op.{Op}
+use Rattle.zone_model.specs.declared.operations.Op.{Op}
 use Rattle.modify_ops.specs.Writing.{ops_data}
 use Rattle.modify_ops.specs.Meant.{IsMeantOp}
 use Rattle.modify_ops.specs.Names.{named_again}
@@ -91,7 +91,7 @@ checks ops few once = rw (le-ltb 200 (length ops) few, once) refl
 
 -- ---- the calls
 
-abbrev modify_table : ModifyCall → Listed
+abbrev pub modify_table : ModifyCall → Listed
 modify_table c =
     (codes "atomic", flag_data true c.atomic)
     ∷ (codes "numbersAsStrings", flag_data false c.numbers_as_strings)
@@ -99,7 +99,7 @@ modify_table c =
     ∷ (codes "zoneID", zone_given c.caller c.zone)
     ∷ []
 
-abbrev lookup_table : LookupCall → Listed
+abbrev pub lookup_table : LookupCall → Listed
 lookup_table c =
     (codes "desiredKeys", option_map names_data c.desired_keys)
     ∷ (codes "numbersAsStrings", flag_data false c.numbers_as_strings)

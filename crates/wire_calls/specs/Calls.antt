@@ -12,7 +12,7 @@ use Rattle.ck_base.specs.declared.route.Route.{Route}
 use Rattle.field_values.specs.Members.{found}
 use Rattle.field_values.specs.Results.{result_map}
 use Rattle.ck_records.specs.Sequence.{◌>>=◌}
-use Rattle.zone_rules.specs.declared.operations.Op.{Op}
+use Rattle.zone_model.specs.declared.operations.Op.{Op}
 use Rattle.modify_ops.specs.Names.{named_again}
 use Rattle.modify_ops.specs.Reading.{list_of}
 use Rattle.wire_calls.specs.declared.call.ModifyCall.{ModifyCall}

@@ -4,9 +4,19 @@ pub mod Zones
 pub mod Members
 -- which call a body means, or the first fault
 pub mod Calls
+-- which call the bytes of a body mean
+pub mod Means
 -- the JSON of calls
 pub mod CallWriting
 -- the calls that some body means, and reading what was written
 pub mod Meant
+-- the text of a call tells it exactly
+pub mod CallTexts
 -- the JSON of replies, and their status
 pub mod Replies
+-- what a call asks of each entry of its reply
+pub mod Asked
+-- which entry the JSON in a reply is
+pub mod Entries
+-- which replies are to a call, and where a body that is none goes wrong
+pub mod RepliesTo

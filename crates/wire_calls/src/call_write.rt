@@ -1,15 +1,18 @@
 // The JSON of calls.
-ghost use Rattle.std.specs.Prelude.{◌≡◌, IfOk, map, option_map};
+ghost use Rattle.std.specs.Prelude.{◌≡◌, IfOk, map, option_map, string_bytes};
 ghost use Rattle.serde_json.specs.Data.{string};
 ghost use Rattle.serde_json.specs.View.{view};
+ghost use Rattle.serde_json.specs.Written.{compact_text};
 ghost use Rattle.ck_records.specs.Writing.{named_data};
 ghost use Rattle.wire_calls.specs.Zones.{zone_data};
+ghost use Rattle.wire_calls.specs.Meant.{IsMeantCall, route_of, caller_of};
+ghost use Rattle.wire_calls.specs.Means.{Means};
 ghost use Rattle.wire_calls.specs.CallWriting.{flag_data, is_default_zone, zone_given, names_data, records_data, modify_data, lookup_data, call_data};
 
-use crate::members::put_some;
 use crate::zones::DEFAULT_ZONE;
 use crate::{Call, LookupCall, ModifyCall};
 use ck_base::{NoMemory, RecordName, RecordNames, UserName, ZoneKey};
+use ck_records::put_some;
 use modify_ops::ops_json;
 use serde_json::{Map, Value as Json, json};
 use std::alloc::Global;
@@ -129,4 +132,16 @@ pub fn call_json(alloc: Global, call: &Call) -> Result<Json, NoMemory>
         Call::Modify(call) => modify_json(alloc, call),
         Call::Lookup(call) => lookup_json(alloc, call),
     }
+}
+
+/// The body of a request with the call: the text of `call_json`. Where some body means the call, this
+/// one does. It fails only where memory runs out.
+pub fn call_text(alloc: Global, call: &Call) -> Result<String, NoMemory>
+    ensures means { IsMeantCall call.now → IfOk result (λ text.
+        Means (route_of call.now) (caller_of call.now) (string_bytes text) call.now) }
+    ensures text { IsMeantCall call.now → IfOk result (λ text.
+        string_bytes text ≡ compact_text (call_data call.now)) }
+{
+    let json = call_json(alloc, call)?;
+    Ok(json.to_string(alloc)?)
 }

@@ -1,25 +1,35 @@
 //! The calls of the service and their replies as JSON, both ways.
 #![tactic(auto)]
 
+mod asked;
 mod call;
+#[cfg(test)]
+mod call_tests;
 mod call_write;
+mod entry_read;
 mod fault;
 mod laws;
+#[cfg(test)]
+mod limit_tests;
 mod lists;
 mod lookup;
 mod members;
 mod modify;
 mod read;
 mod reply;
-mod reply_write;
+mod reply_fault;
+mod reply_read;
 #[cfg(test)]
-mod tests;
+mod reply_tests;
+mod reply_write;
 mod zones;
 
 pub use call::{Call, LookupCall, ModifyCall};
-pub use call_write::call_json;
+pub use call_write::{call_json, call_text};
 pub use fault::{BadCall, CallKey};
-pub use laws::calls_read_back;
+pub use laws::{calls_are_exact, calls_read_back, replies_are_exact, replies_are_one};
 pub use read::read_call;
 pub use reply::{RecordEntries, RecordEntry, RecordsReply, Reply};
-pub use reply_write::{reply_json, reply_status};
+pub use reply_fault::ReplyFault;
+pub use reply_read::read_reply;
+pub use reply_write::{reply_json, reply_status, reply_text};

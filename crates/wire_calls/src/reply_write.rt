@@ -1,6 +1,9 @@
 // The JSON of replies.
-ghost use Rattle.std.specs.Prelude.{◌≡◌, IfOk, map};
+ghost use Rattle.std.specs.Prelude.{◌≡◌, IfOk, map, string_bytes};
 ghost use Rattle.serde_json.specs.View.{view};
+ghost use Rattle.serde_json.specs.Written.{compact_text};
+ghost use Rattle.wire_calls.specs.declared.call.Call.{Call};
+ghost use Rattle.wire_calls.specs.RepliesTo.{IsFor, IsReply};
 ghost use Rattle.wire_calls.specs.Replies.{gone_data, failed_data, conflict_data, reply_entry_data, records_reply_data, reply_data, reply_status};
 
 use crate::{RecordEntry, RecordsReply, Reply};
@@ -10,14 +13,18 @@ use error_replies::{ServerError, code_of, error_json, reason_of, status};
 use serde_json::{Value as Json, json};
 use std::alloc::Global;
 
-fn gone_json(alloc: Global, name: &RecordName) -> Result<Json, NoMemory>
+pub(crate) fn gone_json(alloc: Global, name: &RecordName) -> Result<Json, NoMemory>
     ensures { IfOk result (λ json. view json ≡ gone_data name.now) }
 {
     let name = name.as_str();
     Ok(json!(in alloc; {"deleted": true, "recordName": name})?)
 }
 
-fn failed_json(alloc: Global, error: ServerError, name: &RecordName) -> Result<Json, NoMemory>
+pub(crate) fn failed_json(
+    alloc: Global,
+    error: ServerError,
+    name: &RecordName,
+) -> Result<Json, NoMemory>
     ensures { IfOk result (λ json. view json ≡ failed_data error name.now) }
 {
     let code = code_of(error);
@@ -26,7 +33,11 @@ fn failed_json(alloc: Global, error: ServerError, name: &RecordName) -> Result<J
     Ok(json!(in alloc; {"reason": reason, "recordName": name, "serverErrorCode": code})?)
 }
 
-fn conflict_json(alloc: Global, name: &RecordName, server: Json) -> Result<Json, NoMemory>
+pub(crate) fn conflict_json(
+    alloc: Global,
+    name: &RecordName,
+    server: Json,
+) -> Result<Json, NoMemory>
     ensures { IfOk result (λ json. view json ≡ conflict_data name.now (view server)) }
 {
     let code = code_of(ServerError::Conflict);
@@ -111,4 +122,15 @@ pub fn reply_status(reply: &Reply) -> u16
         Reply::Lookup(_) => 200,
         Reply::Refused(error) => status(*error),
     }
+}
+
+/// The body of a response with the reply: the text of `reply_json`. With `reply_status` it is this
+/// reply to each call that the reply is one to. It fails only where memory runs out.
+pub fn reply_text(alloc: Global, reply: &Reply) -> Result<String, NoMemory>
+    ensures reply { (call : Call) → IsFor call reply.now → IfOk result (λ text.
+        IsReply call (reply_status reply.now) (string_bytes text) reply.now) }
+    ensures text { IfOk result (λ text. string_bytes text ≡ compact_text (reply_data reply.now)) }
+{
+    let json = reply_json(alloc, reply)?;
+    Ok(json.to_string(alloc)?)
 }

@@ -1,57 +1,106 @@
--- How an operation is judged by what is seen before it, and what it does.
--- An operation is one of "Record Operation Dictionary" in the CloudKit Web Services Reference; its fault EXISTS is one of "Error Codes".
-use Rattle.std.specs.Prelude.{ℕ, suc, Bool, List, [], ◌∷◌, None, if◌then◌else◌}
-use Rattle.ck_base.specs.declared.key.ZoneKey.{ZoneKey}
-use Rattle.ck_base.specs.declared.scope.Scope.{Scope}
-use Rattle.zone_model.specs.declared.records.Stamp.{Stamp}
-use Rattle.zone_model.specs.declared.records.Record.{Record}
-use Rattle.zone_model.specs.declared.operations.Draft.{Draft}
+-- The commit of a request.
+use Rattle.std.specs.Prelude.{ℕ, suc, Bool, not, ◌||◌, ◌&&◌, List, [], ◌∷◌, map, filter, filter_map, fold, Option, Some, None, if◌then◌else◌}
+use Rattle.std.specs.List.{list_any}
+use Rattle.ck_records.specs.declared.records.Stamp.{Stamp}
+use Rattle.ck_records.specs.declared.records.Body.{Body}
+use Rattle.ck_records.specs.declared.records.Body.TheVariants.{Plain, Share}
+use Rattle.ck_records.specs.declared.records.Record.{Record}
 use Rattle.zone_model.specs.declared.operations.Op.{Op}
-use Rattle.zone_model.specs.declared.commits.Write.TheVariants.{Put as PutWrite}
+use Rattle.zone_model.specs.declared.commits.Write.{Write}
+use Rattle.zone_model.specs.declared.commits.Write.TheVariants.{Put, Remove, PutRemove}
 use Rattle.zone_model.specs.declared.commits.Act.TheVariants.{Writes}
 use Rattle.zone_model.specs.declared.commits.Commit.{Commit}
-use Rattle.zone_model.specs.declared.outcomes.OpFault.TheVariants.{Exists}
-use Rattle.zone_model.specs.declared.outcomes.Outcome.{Outcome}
-use Rattle.zone_model.specs.declared.outcomes.Outcome.TheVariants.{Put, Refused}
-use Rattle.zone_model.specs.Zones.{is_there, puts_at}
-use Rattle.zone_model.specs.Views.{View, view_of}
+use Rattle.zone_model.specs.Names.{same, is_in, is_shared}
+use Rattle.zone_model.specs.Records.{is_there, with_record, is_share}
+use Rattle.zone_model.specs.Views.{is_empty}
+use Rattle.zone_model.specs.Requests.{Caller, Putting, puts_in, name_of_put, names_deleted}
+use Rattle.zone_model.specs.Sharing.{share_without}
+use Rattle.zone_model.specs.Working.{is_share_of, working_view}
+use Rattle.zone_model.specs.Grounds.{names_taken}
+use Rattle.zone_model.specs.Cascade.{removed_names}
 
--- who asks, and when
-pub record Asker : Type 0 where
-  pub user : List ℕ
+-- A request that was judged: who asks and when, the records that the caller sees, all records of the zone,
+-- how often its names were put, the operations, and a GUID for each put that gives a root.
+pub record Request : Type 0 where
+  pub caller : Caller
   pub moment : ℕ
+  pub seen : List Record
+  pub rows : List Record
+  pub puts : List ℕ → ℕ
+  pub ops : List Op
+  pub guids : List (List ℕ)
 
--- what an operation is judged by: the view before it, and how many commits have put its name
-pub record OpSight : Type 0 where
-  pub view : View
-  pub puts : ℕ
+abbrev pub body_without : List ℕ → Body → Body
+body_without u Plain = Plain
+body_without u (Share s) = Share (share_without u s)
 
-abbrev pub op_sight : List Commit → List ℕ → Scope → ZoneKey → Op → OpSight
-op_sight log user scope key op = record { view = view_of log user scope key; puts = puts_at log key op.draft.name }
+module _ (q : Request) where
+  abbrev pub working : List Record
+  working = working_view q.caller.scope q.seen q.ops q.guids
 
--- the name is taken
-abbrev pub is_refused : OpSight → Op → Bool
-is_refused sight op = is_there sight.view.rows op.draft.name
+  -- ---- what is put
 
-abbrev pub stamp_of : Asker → Stamp
-stamp_of asker = record { moment = asker.moment; user = asker.user }
+  abbrev pub is_new_share_of : List ℕ → Record → Bool
+  is_new_share_of root r = is_share_of root r && not (is_there q.seen r.name)
 
--- the record that a create makes
-abbrev pub record_made : Asker → ℕ → Draft → Record
-record_made asker puts draft = record {
-  name = draft.name;
-  rtype = draft.rtype;
-  tag = suc puts;
-  fields = draft.fields;
-  created = stamp_of asker;
-  modified = stamp_of asker;
-}
+  -- the request puts the name, or a new share that marks it as its root
+  abbrev pub is_put : List ℕ → Bool
+  is_put x = list_any (λ (p : Putting). same x (name_of_put p)) (puts_in q.ops q.guids) || list_any (is_new_share_of x) working
 
-abbrev pub outcome_of : Asker → OpSight → Op → Outcome
-outcome_of asker sight op = if is_refused sight op then Refused Exists None else Put (record_made asker sight.puts op.draft)
+  -- a participant who deletes a share leaves it
+  abbrev pub is_left : Record → Bool
+  is_left r = is_shared q.caller.scope && (is_in (names_deleted q.ops) r.name && (is_share r && is_there q.seen r.name))
 
--- the commit of an operation, or none where it is refused
-abbrev pub commits_made : Asker → ZoneKey → OpSight → Op → List Commit
-commits_made asker key sight op =
-    if is_refused sight op then []
-    else record { key = key; user = asker.user; moment = asker.moment; act = Writes (PutWrite (record_made asker sight.puts op.draft) ∷ []) } ∷ []
+  abbrev pub after_leaving : Record → Record
+  after_leaving r = if is_left r then record r { body = body_without q.caller.user r.body } else r
+
+  -- the whole zone after the puts
+  abbrev pub after_puts : List Record
+  after_puts = map after_leaving (fold with_record q.rows (filter (λ (r : Record). is_put r.name) working))
+
+  -- ---- what goes
+
+  abbrev pub removed : List (List ℕ)
+  removed = removed_names after_puts (names_taken q.caller q.seen q.ops)
+
+  -- ---- what is written
+
+  abbrev pub stamp : Stamp
+  stamp = record { moment = q.moment; user = q.caller.user }
+
+  -- the record with its new tag and stamps
+  abbrev pub stamped : Record → Record
+  stamped r = record r {
+    tag = suc (q.puts r.name);
+    created = if is_there q.rows r.name then r.created else stamp;
+    modified = stamp;
+  }
+
+-- where these names are removed
+module _ (q : Request) (gone : List (List ℕ)) where
+  -- it stays and its share goes, so that it is marked no more
+  abbrev pub is_unmarked : Record → Bool
+  is_unmarked r = not (is_in gone r.name) && list_any (λ (s : Record). is_share_of r.name s && is_in gone s.name) (after_puts q)
+
+  abbrev pub is_written : Record → Bool
+  is_written r = is_put q r.name || (is_left q r || is_unmarked r)
+
+  abbrev pub final : Record → Record
+  final r = record (stamped q r) { share = if is_unmarked r then None else r.share }
+
+  -- a record that is both put and removed is written as that at once
+  abbrev pub write_of : Record → Option Write
+  write_of r =
+      if is_in gone r.name then Some (if is_written r then PutRemove r.name else Remove r.name)
+      else (if is_written r then Some (Put (final r)) else None)
+
+  -- in ascending order of names, as the records stand
+  abbrev pub writes : List Write
+  writes = filter_map write_of (after_puts q)
+
+-- one commit, or none where nothing is written
+abbrev pub commits_with : Request → List Write → List Commit
+commits_with q ws = if is_empty ws then [] else record { key = q.caller.key; user = q.caller.user; moment = q.moment; act = Writes ws } ∷ []
+
+abbrev pub effect : Request → List Commit
+effect q = commits_with q (writes q (removed q))

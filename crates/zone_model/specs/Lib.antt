@@ -1,14 +1,72 @@
--- when two names are the same
+-- the limits, as numbers
+pub mod Limits
+-- tests of what may be missing
+pub mod Options
+-- names and keys: when two are the same, and lists of them
 pub mod Names
+-- records of a zone, one for each name
+pub mod Records
+-- the references of records
+pub mod References
+-- when two records are the same, and two views
+pub mod Same
+-- what a zone holds after commits
+pub mod Zones
+-- the subscriptions after commits
+pub mod Subscriptions
+-- which records stand at or above a name
+pub mod Ancestry
+-- which records a user's shares cover
+pub mod Coverage
+-- what a user sees of a zone, and has seen
+pub mod Views
+-- the change entries of a viewer, and those that are live
+pub mod Entries
+-- a page of changes
+pub mod Pages
+-- copies that are in step with a number, and the fold of a page
+pub mod Copies
+-- the feed of zones that changed for a user
+pub mod ZoneEntries
+-- the puts and deletions of a request
+pub mod Requests
+-- what has happened to the names that a request puts
+pub mod Past
+-- the participants of a share after a request
+pub mod Sharing
+-- the records that puts write
+pub mod Putting
+-- the working view: the view with a request's puts written in
+pub mod Working
+-- what a judgement rests on
+pub mod Grounds
+-- the checks of puts, in their order
+pub mod PutChecks
+-- the checks of deletions, in their order
+pub mod DeletionChecks
+-- the judgement of a request
+pub mod Judging
+-- the cascade of removals
+pub mod Cascade
+-- the commit of a request
+pub mod Effect
+-- what a request comes to: its answers and its commits
+pub mod Modifying
+-- creations of records that stand alone
+pub mod PlainCreates
+-- logs whose commits put one record each
+pub mod OnePuts
+-- the form of a commit
+pub mod Form
+-- which commits may follow
+pub mod Lawful
 -- histories of locks, and how they grow
 pub mod Histories
 -- the commits of events, and whose events they are
 pub mod Events
--- what a zone holds after commits
-pub mod Zones
--- what a user sees of a zone
-pub mod Views
--- how an operation is judged, and what it does
-pub mod Effect
--- which commits and which events may follow
-pub mod Lawful
+-- which events may follow in a history
+pub mod Legal
+-- the bounds of the work for a commit and for a page
+pub mod WorkBounds
+-- the laws of the rules
+pub mod Laws

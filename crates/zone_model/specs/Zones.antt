@@ -1,47 +1,64 @@
--- What a zone holds after commits.
-use Rattle.std.specs.Prelude.{ℕ, Bool, List, [], ◌∷◌, ◌++◌, filter, fold, count_by, codes, if◌then◌else◌}
-use Rattle.std.specs.List.{flat_map, list_any}
+-- What a zone holds after the commits of a log, and how often its names were put.
+use Rattle.std.specs.Prelude.{ℕ, Bool, true, false, List, [], filter, fold, count_by}
+use Rattle.std.specs.List.{list_any}
 use Rattle.ck_base.specs.declared.key.ZoneKey.{ZoneKey}
-use Rattle.zone_model.specs.declared.records.Record.{Record}
+use Rattle.ck_records.specs.declared.records.Record.{Record}
 use Rattle.zone_model.specs.declared.commits.Write.{Write}
-use Rattle.zone_model.specs.declared.commits.Write.TheVariants.{Put}
+use Rattle.zone_model.specs.declared.commits.Write.TheVariants.{Put, Remove, PutRemove}
 use Rattle.zone_model.specs.declared.commits.Act.{Act}
-use Rattle.zone_model.specs.declared.commits.Act.TheVariants.{Writes}
+use Rattle.zone_model.specs.declared.commits.Act.TheVariants.{Writes, MakeZone, DropZone, SetSubscription, DropSubscription}
 use Rattle.zone_model.specs.declared.commits.Commit.{Commit}
-use Rattle.ck_base.specs.Order.{is_before}
-use Rattle.zone_model.specs.Names.{same, same_key}
+use Rattle.zone_model.specs.Names.{same, same_key, is_default}
+use Rattle.zone_model.specs.Records.{with_record, without}
 
--- the zone that each user has from the start
-abbrev pub default_zone : List ℕ
-default_zone = codes "_defaultZone"
+-- the commits of a zone
+abbrev pub commits_at : List Commit → ZoneKey → List Commit
+commits_at log key = filter (λ (c : Commit). same_key key c.key) log
 
-abbrev pub is_default : ZoneKey → Bool
-is_default key = same key.zone default_zone
+-- whether a zone is there, and its records in ascending order of names
+pub record Zone : Type 0 where
+  pub there : Bool
+  pub rows : List Record
 
-abbrev pub written_name : Write → List ℕ
-written_name (Put row) = row.name
-
-abbrev pub writes_in : Act → List Write
-writes_in (Writes ws) = ws
-
--- what the commits of a zone write, one after another
-abbrev pub writes_at : List Commit → ZoneKey → List Write
-writes_at log key = flat_map (λ (c : Commit). if same_key key c.key then writes_in c.act else []) log
-
--- the records, with this one in its place by name
-abbrev pub with_record : List Record → Record → List Record
-with_record rows row = filter (λ (r : Record). is_before r.name row.name) rows ++ row ∷ filter (λ (r : Record). is_before row.name r.name) rows
+-- a default zone is always there, any other from its making to its removal
+abbrev pub first_zone : ZoneKey → Zone
+first_zone key = record { there = is_default key; rows = [] }
 
 abbrev pub after_write : List Record → Write → List Record
-after_write rows (Put row) = with_record rows row
+after_write rows (Put r) = with_record rows r
+after_write rows (Remove x) = without rows x
+after_write rows (PutRemove x) = without rows x
 
--- the records of a zone, in ascending order of names
-abbrev pub records_at : List Commit → ZoneKey → List Record
-records_at log key = fold after_write [] (writes_at log key)
+abbrev pub after_act : Zone → Act → Zone
+after_act z (Writes ws) = record { there = z.there; rows = fold after_write z.rows ws }
+after_act z MakeZone = record { there = true; rows = z.rows }
+after_act z DropZone = record { there = false; rows = [] }
+after_act z (SetSubscription s) = z
+after_act z (DropSubscription scope id) = z
 
-abbrev pub is_there : List Record → List ℕ → Bool
-is_there rows name = list_any (λ (r : Record). same r.name name) rows
+abbrev pub zone_at : List Commit → ZoneKey → Zone
+zone_at log key = fold (λ z (c : Commit). after_act z c.act) (first_zone key) (commits_at log key)
 
--- how often the name was put in the zone; a commit puts it at most once
+-- ---- counts of puts, which make the change tags
+
+abbrev pub written_name : Write → List ℕ
+written_name (Put r) = r.name
+written_name (Remove x) = x
+written_name (PutRemove x) = x
+
+-- put and removed at once counts as a put
+abbrev pub puts_name : List ℕ → Write → Bool
+puts_name x (Put r) = same x r.name
+puts_name x (Remove y) = false
+puts_name x (PutRemove y) = same x y
+
+abbrev pub act_puts : List ℕ → Act → Bool
+act_puts x (Writes ws) = list_any (puts_name x) ws
+act_puts x MakeZone = false
+act_puts x DropZone = false
+act_puts x (SetSubscription s) = false
+act_puts x (DropSubscription scope id) = false
+
+-- how many commits have put the name in the zone, in all its lives and in all lives of the zone
 abbrev pub puts_at : List Commit → ZoneKey → List ℕ → ℕ
-puts_at log key name = count_by (λ w. same (written_name w) name) (writes_at log key)
+puts_at log key x = count_by (λ (c : Commit). act_puts x c.act) (commits_at log key)

@@ -1,20 +1,34 @@
 // What changes a zone.
-use crate::Record;
-use ck_base::{Items, UserName, ZoneKey};
+use ck_base::{Items, RecordName, Scope, UserName, ZoneKey};
+use ck_records::{Record, Subscription};
 
-/// One change of a commit.
+/// One change of a record.
 #[derive(Debug, Drop)]
 pub enum Write {
+    /// The record is put, over the one of its name.
     Put(Record),
+    /// The record of this name is removed.
+    Remove(RecordName),
+    /// The record of this name is put and removed at once, which counts as a put.
+    PutRemove(RecordName),
 }
 
-/// The changes of a commit.
+/// The changes of a commit, in ascending order of the names of their records.
 pub type Writes = Items<Write>;
 
 /// What a commit does.
 #[derive(Debug, Drop)]
 pub enum Act {
+    /// It changes records.
     Writes(Writes),
+    /// It makes the zone.
+    MakeZone,
+    /// It removes the zone with all its records.
+    DropZone,
+    /// It sets a subscription, over the one with its scope and its name.
+    SetSubscription(Subscription),
+    /// It drops a subscription.
+    DropSubscription { scope: Scope, id: RecordName },
 }
 
 /// A change of one zone that happens at once, by a user at a moment in milliseconds.

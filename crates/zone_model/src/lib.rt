@@ -1,15 +1,25 @@
-//! What a zone holds and how it changes: records, operations, commits and events as plain data, and
-//! in `specs/` the rules of zones, judging and effect that the crates above cite.
+//! The rules of zones: operations, commits, pages and events as plain data, and in `specs/` what a
+//! zone holds after commits, what a user sees of it, how requests are judged, and what they do.
+//! Each law of these rules is the clause of a small function of `laws`.
 #![tactic(auto)]
 
 mod commits;
 mod events;
+mod laws;
 mod operations;
 mod outcomes;
-mod records;
+mod pages;
 
 pub use commits::{Act, Commit, Commits, Write, Writes};
 pub use events::{Event, Origin};
-pub use operations::{Draft, Op, OpKind, Ops};
-pub use outcomes::{OpFault, Outcome, Outcomes};
-pub use records::{Field, Fields, Record, Stamp};
+pub use laws::{
+    alike_is_same, ancestors_are_found, copies_stay_in_step, effects_are_in_form,
+    effects_are_in_order, effects_are_lawful, equal_views_give_none, histories_stay_legal,
+    nothing_is_in_step, one_is_either_way, one_put_more, others_change_nothing, owners_see_all,
+    pages_keep_in_step, permissions_are_seen, plain_creates_are_done, plain_creates_are_in_form,
+    puts_are_found, records_stay_in_order, removal_is_least, repeats_are_dropped, views_grow,
+    zone_entries_grow, zones_grow,
+};
+pub use operations::{Op, OpKind, Ops, Past, Pasts};
+pub use outcomes::{Modified, OpFault, Outcome, Outcomes};
+pub use pages::{Item, PageItems, ZonePage};

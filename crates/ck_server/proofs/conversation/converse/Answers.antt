@@ -1,57 +1,84 @@
-use Rattle.std.proofs.Common.{ℕ, List, [], length, sym, ap, subst, arith, refl, Err}
-use Rattle.ck_devices.specs.Runs.{GivesInTurn}
+use Rattle.std.proofs.Common.{◌≡◌, ◌<◌, ℕ, Bool, true, false, List, [], ◌∷◌, length, refl, sym, ap, subst, ◌∙◌, arith}
+use Rattle.http_front.specs.Reading.{Extends}
 use Rattle.talk_model.specs.declared.marks.Mark.{Mark}
-use Rattle.talk_model.specs.Marks.{moments_of}
+use Rattle.talk_model.specs.Given.{Draws, GaveFor, givens_of}
+use Rattle.talk_model.specs.Connections.{most_requests}
 use Rattle.ck_server.specs.Conversations.{Standing}
-use Rattle.ck_server.proofs.OutcomeLemmas.{Goes, goes-start, ends_well, spent_well, breaks_taking, goes_on, breaks_answering, given_marked, given_more}
+use Rattle.ck_server.proofs.GivenLemmas.{gave_on}
+use Rattle.ck_server.proofs.ServingLemmas.{gave_none}
+use Rattle.ck_server.proofs.OutcomeLemmas.{Goes, goes-start, spent_well, finished, broke, counted, goes_on, closes, left_unbuilt, breaks_serving}
 use Rattle.ck_server.proofs.conversation.converse.Goals as goal
-
-pub returns-in-Err-clause-broken : goal.returns-in-Err-clause-broken
-returns-in-Err-clause-broken g c =
-    breaks_taking _ c.args.users.now _ _ _ c.loop-number.marks.items c.loop-number.buffer.items c.loop-number.invariant.goes c.loop-number.invariant.moments _ _ c.in-Err.at
-    (λ e. c.in-Err.ensures.read (ap (λ k. Err k) e)) (λ e. c.in-Err.ensures.unfinished (ap (λ k. Err k) e)) (omega (arith, c.loop-number.invariant.count)) c.in-Err.ensures.takes
-
-pub returns-in-Ok-AtEnd-clause-talk : goal.returns-in-Ok-AtEnd-clause-talk
-returns-in-Ok-AtEnd-clause-talk g c =
-    ends_well _ c.args.users.now _ _ _ c.loop-number.marks.items c.loop-number.buffer.items c.loop-number.invariant.goes c.loop-number.invariant.moments _ _ c.in-Ok-AtEnd.end
-    (omega (arith, c.loop-number.invariant.count)) (rw c.in-Ok-AtEnd.field-0-is at c.in-Ok-AtEnd.ensures.takes)
-
-pub returns-clause-talk : goal.returns-clause-talk
-returns-clause-talk g c =
-    spent_well _ c.args.users.now _ _ _ c.loop-number.marks.items c.loop-number.buffer.items c.loop-number.invariant.goes c.loop-number.invariant.moments (omega (arith, c.loop-number.invariant.count))
-
-pub returns-in-Err-answer_request-clause-broken : goal.returns-in-Err-answer_request-clause-broken
-returns-in-Err-answer_request-clause-broken g c =
-    breaks_answering _ _ c.loop-number.invariant.alone c.args.users.now _ _ c.loop-number.marks.items c.loop-number.buffer.items c.loop-number.invariant.goes
-    c.loop-number.number c.loop-number.invariant.count (omega arith) _ _ _ _ _ _ c.take_request.new.buffer.items c.in-Ok-Request.wanted (rw c.in-Ok-Request.field-0-is at c.in-Ok-Request.ensures.takes)
-    _ (Unit {0}) c.in-Err-answer_request.at
-    (λ unsent rep. given_marked _ _ c.loop-number.clock _ _ _ _ _ c.loop-number.marks.items _ c.in-Ok-Request.wanted c.loop-number.invariant.moments unsent rep)
-    (λ moment given. given_more _ _ c.loop-number.clock _ c.loop-number.marks.items c.loop-number.invariant.moments moment given)
-    c.in-Err-answer_request.ensures.answers
 
 pub loop-number-init : goal.loop-number-init
 loop-number-init g c =
     let alone = g.B.Board.alone c.args.board.now in
     let entry : Standing = record { left = g.S.Source.left c.args.source.now; held = g.W.Sink.held c.args.sink.now; histories = g.B.Board.history c.args.board.now; seats = g.B.Board.seats c.args.board.now } in
     record {
-      goes = subst (λ (ms : List Mark). Goes alone c.args.users.now entry entry ms c.new-buffer.result.items) (sym c.new-marks.ensures.items)
-          (subst (λ (b : List ℕ). Goes alone c.args.users.now entry entry [] b) (sym c.new-buffer.ensures.items) (goes-start alone c.args.users.now entry));
+      goes = subst (λ (ms : List Mark). Goes alone c.args.users.now entry entry ms c.new-buffer.result) (sym c.new-marks.ensures.items)
+          (subst (λ (b : List ℕ). Goes alone c.args.users.now entry entry [] b) (sym c.new-buffer.ensures) (goes-start alone c.args.users.now entry));
       count = ap (λ (ms : List Mark). length ms) (sym c.new-marks.ensures.items);
-      moments = subst (λ (ms : List Mark). GivesInTurn g.C.Clock.gives c.args.clock.now (moments_of ms) c.args.clock.now) (sym c.new-marks.ensures.items) refl;
+      given = subst (λ (ms : List Mark). GaveFor g.C.Clock.gives (Draws g.R.Words.gives g.R.Words.fault_count) c.args.clock.now c.args.clock.now c.args.words.now c.args.words.now (givens_of ms)) (sym c.new-marks.ensures.items)
+          (gave_none g.C.Clock.gives _ c.args.clock.now c.args.words.now);
       alone = λ lone. lone;
       read = omega arith;
       written = omega arith;
     }
 
+pub returns-in-Ok-finish-clause-talk : goal.returns-in-Ok-finish-clause-talk
+returns-in-Ok-finish-clause-talk g c =
+    finished (g.B.Board.alone c.args.board.now) c.args.users.now _ _ _ c.loop-number.marks.items c.loop-number.buffer c.loop-number.invariant.goes c.loop-number.invariant.given (omega (arith, c.loop-number.invariant.count))
+    (g.S.Source.left c.read_request.new.source) (g.W.Sink.held c.finish.new.sink) c.read_request.new.buffer c.in-Err.ensures.kept c.in-Err.fault c.in-Ok-finish.end c.in-Err.ensures.fault c.in-Ok-finish.ensures.finishes
+
+pub returns-in-Err-finish-clause-broken : goal.returns-in-Err-finish-clause-broken
+returns-in-Err-finish-clause-broken g c =
+    broke (g.B.Board.alone c.args.board.now) c.args.users.now _ _ _ c.loop-number.marks.items c.loop-number.buffer c.loop-number.invariant.goes c.loop-number.invariant.given (omega (arith, c.loop-number.invariant.count))
+    (g.S.Source.left c.read_request.new.source) (g.W.Sink.held c.finish.new.sink) c.read_request.new.buffer c.in-Err.ensures.kept c.in-Err.fault c.in-Err-finish.at c.in-Err.ensures.fault c.in-Err-finish.ensures.finishes
+
+pub returns-in-Ok-Answered-2-clause-talk : goal.returns-in-Ok-Answered-2-clause-talk
+returns-in-Ok-Answered-2-clause-talk g c =
+    let draws = Draws g.R.Words.gives g.R.Words.fault_count in
+    closes (g.B.Board.alone c.args.board.now) (g.B.Board.alone c.loop-number.board) c.loop-number.invariant.alone c.args.users.now _ _ c.loop-number.marks.items c.loop-number.buffer c.loop-number.invariant.goes
+    c.loop-number.number c.loop-number.invariant.count (omega arith) (g.S.Source.left c.read_request.new.source) (g.W.Sink.held c.serve_request.new.sink) (g.B.Board.history c.serve_request.new.board) (g.B.Board.seats c.serve_request.new.board)
+    (GaveFor g.C.Clock.gives draws c.loop-number.clock c.serve_request.new.clock c.loop-number.words c.serve_request.new.words) (GaveFor g.C.Clock.gives draws c.args.clock.now c.serve_request.new.clock c.args.words.now c.serve_request.new.words)
+    (λ more gave. gave_on g.C.Clock.gives draws c.args.clock.now c.loop-number.clock c.serve_request.new.clock c.args.words.now c.loop-number.words c.serve_request.new.words _ more c.loop-number.invariant.given gave)
+    c.serve_request.new.marks.items c.read_request.new.buffer c.in-Ok.request c.in-Ok.ensures.request c.if-not-request.false (rw c.in-Ok-Answered.field-0-is at c.in-Ok-Answered.ensures.serves)
+
+pub returns-in-Ok-NotBuilt-clause-talk : goal.returns-in-Ok-NotBuilt-clause-talk
+returns-in-Ok-NotBuilt-clause-talk g c =
+    let draws = Draws g.R.Words.gives g.R.Words.fault_count in
+    left_unbuilt (g.B.Board.alone c.args.board.now) (g.B.Board.alone c.loop-number.board) c.loop-number.invariant.alone c.args.users.now _ _ c.loop-number.marks.items c.loop-number.buffer c.loop-number.invariant.goes
+    c.loop-number.number c.loop-number.invariant.count (omega arith) (g.S.Source.left c.read_request.new.source) (g.W.Sink.held c.serve_request.new.sink) (g.B.Board.history c.serve_request.new.board) (g.B.Board.seats c.serve_request.new.board)
+    (GaveFor g.C.Clock.gives draws c.loop-number.clock c.serve_request.new.clock c.loop-number.words c.serve_request.new.words) (GaveFor g.C.Clock.gives draws c.args.clock.now c.serve_request.new.clock c.args.words.now c.serve_request.new.words)
+    (λ more gave. gave_on g.C.Clock.gives draws c.args.clock.now c.loop-number.clock c.serve_request.new.clock c.args.words.now c.loop-number.words c.serve_request.new.words _ more c.loop-number.invariant.given gave)
+    c.serve_request.new.marks.items c.read_request.new.buffer c.in-Ok.request c.in-Ok.ensures.request (rw c.in-Ok-NotBuilt.field-0-is at c.in-Ok-NotBuilt.ensures.serves)
+
+pub returns-in-Err-serve_request-clause-broken : goal.returns-in-Err-serve_request-clause-broken
+returns-in-Err-serve_request-clause-broken g c =
+    let draws = Draws g.R.Words.gives g.R.Words.fault_count in
+    breaks_serving (g.B.Board.alone c.args.board.now) (g.B.Board.alone c.loop-number.board) c.loop-number.invariant.alone c.args.users.now _ _ c.loop-number.marks.items c.loop-number.buffer c.loop-number.invariant.goes
+    c.loop-number.number c.loop-number.invariant.count (omega arith) (g.S.Source.left c.read_request.new.source) (g.W.Sink.held c.serve_request.new.sink) (g.B.Board.history c.serve_request.new.board) (g.B.Board.seats c.serve_request.new.board)
+    (GaveFor g.C.Clock.gives draws c.loop-number.clock c.serve_request.new.clock c.loop-number.words c.serve_request.new.words) (GaveFor g.C.Clock.gives draws c.args.clock.now c.serve_request.new.clock c.args.words.now c.serve_request.new.words)
+    (λ more gave. gave_on g.C.Clock.gives draws c.args.clock.now c.loop-number.clock c.serve_request.new.clock c.args.words.now c.loop-number.words c.serve_request.new.words _ more c.loop-number.invariant.given gave)
+    c.serve_request.new.marks.items c.read_request.new.buffer c.in-Ok.request c.in-Ok.ensures.request c.in-Err-serve_request.at c.in-Err-serve_request.ensures.serves
+
 pub loop-number-preserved : goal.loop-number-preserved
 loop-number-preserved g c =
-    let goes = goes_on _ _ c.loop-number.invariant.alone c.args.users.now _ _ c.loop-number.marks.items c.loop-number.buffer.items c.loop-number.invariant.goes
-    c.loop-number.number c.loop-number.invariant.count (omega arith) _ _ _ _ _ _ c.take_request.new.buffer.items c.in-Ok-Request.wanted (rw c.in-Ok-Request.field-0-is at c.in-Ok-Request.ensures.takes) c.in-Ok.ensures.answers in
+    let draws = Draws g.R.Words.gives g.R.Words.fault_count in
+    let serves = rw c.in-Ok-Answered.field-0-is at c.in-Ok-Answered.ensures.serves in
+    let goes = goes_on (g.B.Board.alone c.args.board.now) (g.B.Board.alone c.loop-number.board) c.loop-number.invariant.alone c.args.users.now _ _ c.loop-number.marks.items c.loop-number.buffer c.loop-number.invariant.goes
+    c.loop-number.number c.loop-number.invariant.count (omega arith) (g.S.Source.left c.read_request.new.source) (g.W.Sink.held c.serve_request.new.sink) (g.B.Board.history c.serve_request.new.board) (g.B.Board.seats c.serve_request.new.board)
+    (GaveFor g.C.Clock.gives draws c.loop-number.clock c.serve_request.new.clock c.loop-number.words c.serve_request.new.words) (GaveFor g.C.Clock.gives draws c.args.clock.now c.serve_request.new.clock c.args.words.now c.serve_request.new.words)
+    (λ more gave. gave_on g.C.Clock.gives draws c.args.clock.now c.loop-number.clock c.serve_request.new.clock c.args.words.now c.loop-number.words c.serve_request.new.words _ more c.loop-number.invariant.given gave)
+    c.serve_request.new.marks.items c.read_request.new.buffer c.in-Ok.request c.in-Ok.ensures.request c.if-not-request.true serves in
     record {
       goes = goes.0;
-      count = sym goes.1;
-      moments = given_marked _ _ c.loop-number.clock _ _ _ _ _ c.loop-number.marks.items _ c.in-Ok-Request.wanted c.loop-number.invariant.moments [] c.in-Ok.ensures.answers;
-      alone = λ lone. c.answer_request.ensures.alone (c.loop-number.invariant.alone lone);
-      read = omega (arith, c.loop-number.invariant.read, c.take_request.ensures.later);
-      written = omega (arith, c.loop-number.invariant.written, c.answer_request.ensures.later);
+      count = sym goes.2;
+      given = goes.1;
+      alone = λ lone. c.serve_request.ensures.alone (c.loop-number.invariant.alone lone);
+      read = omega (arith, c.loop-number.invariant.read, c.read_request.ensures.later);
+      written = omega (arith, c.loop-number.invariant.written, c.serve_request.ensures.later);
     }
+
+pub returns-clause-talk : goal.returns-clause-talk
+returns-clause-talk g c =
+    spent_well (g.B.Board.alone c.args.board.now) c.args.users.now _ _ _ c.loop-number.marks.items c.loop-number.buffer c.loop-number.invariant.goes c.loop-number.invariant.given (omega (arith, c.loop-number.invariant.count))

@@ -1,0 +1,70 @@
+-- What an ask on records is given to see, and what it comes to by that alone.
+use Rattle.std.specs.Prelude.{ℕ, Bool, not, ◌&&◌, List, [], ◌∷◌, ◌++◌, map, zip, find, if◌then◌else◌}
+use Rattle.std.specs.Option.{option_map_or}
+use Rattle.ck_base.specs.declared.key.ZoneKey.{ZoneKey}
+use Rattle.ck_records.specs.declared.view.View.{View}
+use Rattle.zone_model.specs.declared.operations.Op.{Op}
+use Rattle.zone_model.specs.declared.operations.Past.{Past}
+use Rattle.zone_model.specs.declared.commits.Commit.{Commit}
+use Rattle.zone_model.specs.declared.outcomes.Outcome.{Outcome}
+use Rattle.zone_model.specs.Names.{same, is_default}
+use Rattle.zone_model.specs.Views.{view_of}
+use Rattle.zone_model.specs.Past.{name_history}
+use Rattle.zone_model.specs.Requests.{Caller, guids_left}
+use Rattle.zone_model.specs.Judging.{judgement}
+use Rattle.zone_model.specs.Effect.{Request}
+use Rattle.zone_model.specs.Modifying.{outcome_of, effect_at}
+
+-- the caller's view of the zone, and what has happened to the names that operations put
+pub record OpSight : Type 0 where
+  pub view : View
+  pub pasts : List Past
+
+-- What an answer may depend on: for a modify what is seen before the request and before each operation, and else the view.
+pub data Sight : Type 0 where
+  modifying : OpSight → List OpSight → Sight
+  viewing : View → Sight
+
+-- an atomic request is judged as one, but never in a default zone
+abbrev pub is_judged_as_one : ZoneKey → Bool → Bool
+is_judged_as_one key atomic = atomic && not (is_default key)
+
+-- how often commits have put the name, as far as it is told
+abbrev pub puts_seen : List Past → List ℕ → ℕ
+puts_seen pasts x = option_map_or (λ (p : Past). p.puts) (find (λ (p : Past). same x p.name) pasts) 0
+
+module _ (caller : Caller) (moment : ℕ) where
+  abbrev pub op_sight : List Commit → List Op → OpSight
+  op_sight log ops = record { view = view_of log caller.user caller.scope caller.key; pasts = name_history log caller.key ops }
+
+  -- before each of the operations, which are done one after another
+  abbrev pub sights_of : List Commit → List Op → List (List ℕ) → List OpSight
+  sights_of log [] guids = []
+  sights_of log (op ∷ ops) guids =
+      op_sight log (op ∷ []) ∷ sights_of (log ++ effect_at caller moment log (op ∷ []) guids) ops (guids_left op guids)
+
+  -- a request as far as the caller sees the zone
+  abbrev pub request_seen : OpSight → List Op → List (List ℕ) → Request
+  request_seen s ops guids = record {
+    caller = caller;
+    moment = moment;
+    seen = s.view.rows;
+    rows = s.view.rows;
+    puts = puts_seen s.pasts;
+    ops = ops;
+    guids = guids;
+  }
+
+  -- an outcome for each operation, by what was seen before all of them
+  abbrev pub outcomes_as_one : OpSight → List Op → List (List ℕ) → List Outcome
+  outcomes_as_one s ops guids = map (outcome_of (request_seen s ops guids)) (zip ops (judgement s.view s.pasts ops caller))
+
+  -- or by what was seen before each of them
+  abbrev pub outcomes_apart : List OpSight → List Op → List (List ℕ) → List Outcome
+  outcomes_apart [] ops guids = []
+  outcomes_apart (s ∷ ss) [] guids = []
+  outcomes_apart (s ∷ ss) (op ∷ ops) guids = outcomes_as_one s (op ∷ []) guids ++ outcomes_apart ss ops (guids_left op guids)
+
+  abbrev pub outcomes_by : Bool → OpSight → List OpSight → List Op → List (List ℕ) → List Outcome
+  outcomes_by atomic before each ops guids =
+      if is_judged_as_one caller.key atomic then outcomes_as_one before ops guids else outcomes_apart each ops guids

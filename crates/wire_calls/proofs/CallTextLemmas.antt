@@ -1,0 +1,108 @@
+-- The text of a call tells it exactly.
+use Rattle.std.proofs.Common.{◌≡◌, ℕ, ◌≤◌, Bool, true, false, List, [], ◌∷◌, map, Option, None, Some, option_map, refl, sym, subst, arith}
+use Rattle.std.specs.Prelude.{IfSome, if◌then◌else◌}
+use Rattle.std.specs.List.{AllByRecursion}
+use Rattle.std.proofs.lemmas.Bool.{or_from}
+use Rattle.serde_json.specs.Data.{string, items_depth}
+use Rattle.serde_json.specs.View.{items_of}
+use Rattle.serde_json.specs.Written.{items_have_float}
+use Rattle.ck_base.specs.declared.key.ZoneKey.{ZoneKey}
+use Rattle.field_values.specs.Exact.{IsExact}
+use Rattle.ck_records.specs.declared.draft.Draft.{Draft}
+use Rattle.ck_records.specs.Meant.{IsMeantDraft}
+use Rattle.ck_records.specs.Writing.{named_data}
+use Rattle.ck_records.proofs.DraftFlatLemmas.{drafts_flat}
+use Rattle.ck_records.proofs.FlatLemmas.{Flat, present_flat}
+use Rattle.zone_model.specs.declared.operations.Op.{Op}
+use Rattle.modify_ops.specs.Kinds.{is_deletion}
+use Rattle.modify_ops.specs.Forms.{bare}
+use Rattle.modify_ops.specs.Meant.{IsBare, IsMeantWhere, IsMeantOp}
+use Rattle.modify_ops.specs.Writing.{op_data, ops_data}
+use Rattle.wire_calls.specs.declared.call.ModifyCall.{ModifyCall}
+use Rattle.wire_calls.specs.declared.call.LookupCall.{LookupCall}
+use Rattle.wire_calls.specs.declared.call.Call.TheVariants.{Modify, Lookup}
+use Rattle.wire_calls.specs.CallWriting.{flag_data, is_default_zone, zone_given, names_data, records_data, modify_data, lookup_data}
+use Rattle.wire_calls.specs.Meant.{IsMeantModify}
+use Rattle.wire_calls.specs.CallTexts.{CallsAreExact}
+use Rattle.wire_calls.specs.Zones.{zone_data}
+use Rattle.wire_calls.proofs.ReadsBackLemmas.{modify_table, lookup_table}
+
+-- ---- operations
+
+bare_is_meant : (d : Draft) → IsBare d → IsMeantDraft d
+bare_is_meant d is =
+    let whole : IsMeantDraft (bare is.given d.tag) = record { name = is.name; rtype = tt; tag = is.tag; parent = tt; root = tt; participants = tt; fields = (tt, refl) } in
+    subst IsMeantDraft (sym is.is) whole
+
+draft_is_meant : (deletion : Bool) (d : Draft) → IsMeantWhere deletion d → IsMeantDraft d
+draft_is_meant true d is = bare_is_meant d is
+draft_is_meant false d is = is
+
+op_flat : (op : Op) → IsMeantOp op → Flat 6 (op_data op)
+op_flat op is =
+    let draft = draft_is_meant (is_deletion op.kind) op.draft is.draft in
+    record { whole = or_from _ _ (drafts_flat.whole op.draft draft) refl; shallow = omega (arith, drafts_flat.shallow op.draft draft) }
+
+ops_whole : (ops : List Op) → AllByRecursion IsMeantOp ops → items_have_float (items_of (map op_data ops)) ≡ false
+ops_whole [] all = refl
+ops_whole (op ∷ ops) all = or_from _ _ (op_flat op all.0).whole (ops_whole ops all.1)
+
+ops_shallow : (ops : List Op) → AllByRecursion IsMeantOp ops → items_depth (items_of (map op_data ops)) ≤ 6
+ops_shallow [] all = omega arith
+ops_shallow (op ∷ ops) all = omega (arith, (op_flat op all.0).shallow, ops_shallow ops all.1)
+
+ops_flat : (ops : List Op) → AllByRecursion IsMeantOp ops → Flat 7 (ops_data ops)
+ops_flat ops all = record { whole = ops_whole ops all; shallow = omega (arith, ops_shallow ops all) }
+
+-- ---- the other members
+
+flag_flat : (default flag : Bool) → IfSome (flag_data default flag) (Flat 7)
+flag_flat true true = tt
+flag_flat true false = record { whole = refl; shallow = omega arith }
+flag_flat false true = record { whole = refl; shallow = omega arith }
+flag_flat false false = tt
+
+zone_flat : (caller : List ℕ) (key : ZoneKey) → IfSome (zone_given caller key) (Flat 7)
+zone_flat caller key = by (is_default_zone caller key) where
+  by : (b : Bool) → IfSome (if b then None else Some (zone_data key)) (Flat 7)
+  by true = tt
+  by false = record { whole = refl; shallow = omega arith }
+
+names_whole : (names : List (List ℕ)) → items_have_float (items_of (map string names)) ≡ false
+names_whole [] = refl
+names_whole (name ∷ names) = names_whole names
+
+names_shallow : (names : List (List ℕ)) → items_depth (items_of (map string names)) ≤ 1
+names_shallow [] = omega arith
+names_shallow (name ∷ names) = omega (arith, names_shallow names)
+
+keys_flat : (o : Option (List (List ℕ))) → IfSome (option_map names_data o) (Flat 7)
+keys_flat None = tt
+keys_flat (Some names) = record { whole = names_whole names; shallow = omega (arith, names_shallow names) }
+
+records_whole : (names : List (List ℕ)) → items_have_float (items_of (map named_data names)) ≡ false
+records_whole [] = refl
+records_whole (name ∷ names) = records_whole names
+
+records_shallow : (names : List (List ℕ)) → items_depth (items_of (map named_data names)) ≤ 1
+records_shallow [] = omega arith
+records_shallow (name ∷ names) = omega (arith, records_shallow names)
+
+records_flat : (names : List (List ℕ)) → Flat 7 (records_data names)
+records_flat names = record { whole = records_whole names; shallow = omega (arith, records_shallow names) }
+
+-- ---- the calls
+
+modify_exact : (c : ModifyCall) → IsMeantModify c → IsExact (modify_data c)
+modify_exact c is =
+    let flat = present_flat 7 (modify_table c) (flag_flat true c.atomic, (flag_flat false c.numbers_as_strings, (ops_flat c.ops is.ops, (zone_flat c.caller c.zone, tt)))) in
+    record { whole = flat.whole; shallow = omega (arith, flat.shallow) }
+
+lookup_exact : (c : LookupCall) → IsExact (lookup_data c)
+lookup_exact c =
+    let flat = present_flat 7 (lookup_table c) (keys_flat c.desired_keys, (flag_flat false c.numbers_as_strings, (records_flat c.names, (zone_flat c.caller c.zone, tt)))) in
+    record { whole = flat.whole; shallow = omega (arith, flat.shallow) }
+
+pub calls_exact : CallsAreExact
+calls_exact (Modify c) is = modify_exact c is
+calls_exact (Lookup c) is = lookup_exact c

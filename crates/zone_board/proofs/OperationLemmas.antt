@@ -1,0 +1,141 @@
+-- Creations, one after another.
+use Rattle.std.proofs.Common.{◌≡◌, ℕ, suc, ◌+◌, ◌<◌, ◌≤◌, List, [], ◌∷◌, ◌++◌, true, length, drop, sym, ap, ◌∙◌, subst, append-nil, append_assoc, add-one, drop-cons, get_or, arith}
+use Rattle.std.specs.List.{list_all, AllByRecursion}
+use Rattle.std.proofs.lemmas.Bool.{and_parts}
+use Rattle.std.proofs.lemmas.List.{length-drop, drop-drop}
+use Rattle.std.proofs.lemmas.List.Sums.{sum_by-cons}
+use Rattle.zone_model.specs.declared.operations.Op.{Op}
+use Rattle.zone_model.specs.declared.commits.Commit.{Commit}
+use Rattle.zone_model.specs.declared.outcomes.Outcome.{Outcome}
+use Rattle.zone_model.specs.declared.outcomes.Modified.{Modified}
+use Rattle.zone_model.specs.Modifying.{modified_apart}
+use Rattle.zone_model.specs.OnePuts.{IsOnePut}
+use Rattle.zone_model.specs.PlainCreates.{is_plain_create}
+use Rattle.modify_ops.specs.Drawing.{words_for, words_drawn, first_word, words_after, named_by, named_ops}
+use Rattle.modify_ops.specs.Meant.{IsMeantOp}
+use Rattle.zone_board.specs.declared.create.Asking.{Asking}
+use Rattle.zone_board.specs.Kept.{IsCreation}
+use Rattle.zone_board.specs.Creations.{with_name}
+use Rattle.zone_board.specs.Askings.{caller_of, one_done, all_done}
+use Rattle.zone_board.proofs.PlainLemmas.{all_joined, all_weaker, none_left}
+
+-- what was made and answered so far, with what comes of the operations and words that are left, is what comes of all
+pub record IsUnderWay (asking : Asking) (log : List Commit) (ops left : List Op) (words rest : List (List ℕ)) (commits : List Commit) (outcomes : List Outcome) : Type 0 where
+  pub made : commits ++ (all_done asking (log ++ commits) (named_ops left rest)).commits ≡ (all_done asking log (named_ops ops words)).commits
+  pub told : outcomes ++ (all_done asking (log ++ commits) (named_ops left rest)).outcomes ≡ (all_done asking log (named_ops ops words)).outcomes
+  pub formed : AllByRecursion (IsCreation asking.key.now) commits
+  pub plain : list_all is_plain_create left ≡ true
+  pub meant : AllByRecursion IsMeantOp left
+  pub enough : length rest ≡ words_drawn left
+
+pub under_way : (asking : Asking) (log : List Commit) (ops : List Op) (words : List (List ℕ)) → list_all is_plain_create ops ≡ true → AllByRecursion IsMeantOp ops → length words ≡ words_drawn ops
+    → IsUnderWay asking log ops ops words words [] []
+under_way asking log ops words plain meant enough = record {
+  made = ap (λ l. (all_done asking l (named_ops ops words)).commits) (append-nil log);
+  told = ap (λ l. (all_done asking l (named_ops ops words)).outcomes) (append-nil log);
+  formed = tt;
+  plain = plain;
+  meant = meant;
+  enough = enough;
+}
+
+-- the log stays one of commits that put one record each
+pub ones_more : (asking : Asking) (log commits : List Commit) → AllByRecursion IsOnePut log → AllByRecursion (IsCreation asking.key.now) commits → AllByRecursion IsOnePut (log ++ commits)
+ones_more asking log commits ones formed = all_joined IsOnePut log commits ones (all_weaker (IsCreation asking.key.now) IsOnePut commits (λ c is. is.one) formed)
+
+-- what comes of one operation and then of others
+first_done : (asking : Asking) (log : List Commit) (op : Op) (ops : List Op)
+    → all_done asking log (op ∷ ops)
+    ≡ record {
+      outcomes = (one_done asking log op).outcomes ++ (all_done asking (log ++ (one_done asking log op).commits) ops).outcomes;
+      commits = (one_done asking log op).commits ++ (all_done asking (log ++ (one_done asking log op).commits) ops).commits;
+    }
+unfolding one_done all_done
+first_done asking log op ops =
+    let first = one_done asking log op in
+    ap (λ guids.
+    let rest = modified_apart (caller_of asking) asking.moment (log ++ first.commits) ops guids in
+    record { outcomes = first.outcomes ++ rest.outcomes; commits = first.commits ++ rest.commits }) (none_left op)
+
+words_more : (n : ℕ) (ws : List (List ℕ)) (m : ℕ) → length ws ≡ n + m → length (drop n ws) ≡ m
+words_more n ws m e = omega (arith, e, length-drop n ws)
+
+module _ (asking : Asking) (log : List Commit) (ops : List Op) (op : Op) (left : List Op) (words rest : List (List ℕ)) (commits : List Commit) (outcomes : List Outcome)
+    (way : IsUnderWay asking log ops (op ∷ left) words rest commits outcomes) where
+  abbrev named_op : Op
+  named_op = named_by op (first_word rest)
+
+  abbrev its_log : List Commit
+  its_log = log ++ commits
+
+  abbrev its_done : Modified
+  its_done = one_done asking its_log named_op
+
+  abbrev later : List Op
+  later = named_ops left (words_after op rest)
+
+  done_more : AllByRecursion (IsCreation asking.key.now) its_done.commits
+      → IsUnderWay asking log ops left words (words_after op rest) (commits ++ its_done.commits) (outcomes ++ its_done.outcomes)
+  done_more formed =
+      let plain = and_parts (is_plain_create op) _ way.plain in
+      record {
+        made = append_assoc commits its_done.commits (all_done asking (log ++ (commits ++ its_done.commits)) later).commits
+            ∙ ap (λ l. commits ++ (its_done.commits ++ (all_done asking l later).commits)) (sym (append_assoc log commits its_done.commits))
+            ∙ ap (λ (m : Modified). commits ++ m.commits) (sym (first_done asking its_log named_op later))
+            ∙ way.made;
+        told = append_assoc outcomes its_done.outcomes (all_done asking (log ++ (commits ++ its_done.commits)) later).outcomes
+            ∙ ap (λ l. outcomes ++ (its_done.outcomes ++ (all_done asking l later).outcomes)) (sym (append_assoc log commits its_done.commits))
+            ∙ ap (λ (m : Modified). outcomes ++ m.outcomes) (sym (first_done asking its_log named_op later))
+            ∙ way.told;
+        formed = all_joined (IsCreation asking.key.now) commits its_done.commits way.formed formed;
+        plain = plain.1;
+        meant = way.meant.1;
+        enough = words_more (words_for op) rest (words_drawn left) (way.enough ∙ sum_by-cons words_for op left);
+      }
+
+  -- one operation more, with its name
+  pub one_more : (name : List ℕ) (outcome : Outcome) (made : List Commit) (told : List Outcome) → with_name op name ≡ named_op
+      → (one_done asking its_log (with_name op name)).outcomes ≡ outcome ∷ []
+      → made ≡ commits ++ (one_done asking its_log (with_name op name)).commits
+      → AllByRecursion (IsCreation asking.key.now) (one_done asking its_log (with_name op name)).commits
+      → told ≡ outcomes ++ outcome ∷ []
+      → IsUnderWay asking log ops left words (words_after op rest) made told
+  one_more name outcome made told named outcome_is made_is formed told_is =
+      let formed_named = subst (λ n. AllByRecursion (IsCreation asking.key.now) (one_done asking its_log n).commits) named formed in
+      let made_named = made_is ∙ ap (λ n. commits ++ (one_done asking its_log n).commits) named in
+      let told_named = told_is ∙ ap (λ os. outcomes ++ os) (sym outcome_is ∙ ap (λ n. (one_done asking its_log n).outcomes) named) in
+      subst (λ cs. IsUnderWay asking log ops left words (words_after op rest) cs told) (sym made_named)
+      (subst (λ os. IsUnderWay asking log ops left words (words_after op rest) (commits ++ its_done.commits) os) (sym told_named) (done_more formed_named))
+
+drawn_within : (drawn n m : ℕ) (ws : List (List ℕ)) → length (drop drawn ws) ≡ n + m → drawn ≤ length ws → drawn + n ≤ length ws
+drawn_within drawn n m ws e within = omega (arith, e, within, length-drop drawn ws)
+
+-- one turn of the loop
+pub step : (asking : Asking) (log : List Commit) (ops : List Op) (i : ℕ) (op : Op) (words : List (List ℕ)) (drawn n : ℕ) (commits made : List Commit) (outcomes told : List Outcome) (name : List ℕ) (outcome : Outcome)
+    → IsUnderWay asking log ops (drop i ops) words (drop drawn words) commits outcomes → drawn ≤ length words → i < length ops → op ≡ get_or ops i op → n ≡ words_for op
+    → with_name op name ≡ named_by op (first_word (drop drawn words))
+    → (one_done asking (log ++ commits) (with_name op name)).outcomes ≡ outcome ∷ []
+    → made ≡ commits ++ (one_done asking (log ++ commits) (with_name op name)).commits
+    → AllByRecursion (IsCreation asking.key.now) (one_done asking (log ++ commits) (with_name op name)).commits
+    → told ≡ outcomes ++ outcome ∷ []
+    → IsUnderWay asking log ops (drop (i + 1) ops) words (drop (drawn + n) words) made told × (drawn + n ≤ length words)
+step asking log ops i op words drawn n commits made outcomes told name outcome way within lt is n_is named outcome_is made_is formed told_is =
+    let front : drop i ops ≡ op ∷ drop (i + 1) ops = rw add-one (drop-cons ops i op lt ∙ ap (λ o. o ∷ drop (suc i) ops) (sym is)) in
+    let at = subst (λ left. IsUnderWay asking log ops left words (drop drawn words) commits outcomes) front way in
+    let rest : words_after op (drop drawn words) ≡ drop (drawn + n) words = ap (λ k. drop k (drop drawn words)) (sym n_is) ∙ drop-drop n drawn words in
+    let enough : length (drop drawn words) ≡ n + words_drawn (drop (i + 1) ops) = at.enough ∙ sum_by-cons words_for op (drop (i + 1) ops) ∙ ap (λ k. k + words_drawn (drop (i + 1) ops)) (sym n_is) in (
+      subst (λ ws. IsUnderWay asking log ops (drop (i + 1) ops) words ws made told) rest
+          (one_more asking log ops op (drop (i + 1) ops) words (drop drawn words) commits outcomes at name outcome made told named outcome_is made_is formed told_is),
+      drawn_within drawn n (words_drawn (drop (i + 1) ops)) words enough within,
+    )
+
+-- nothing is left
+pub all_made : (asking : Asking) (log : List Commit) (ops : List Op) (words rest : List (List ℕ)) (commits : List Commit) (outcomes : List Outcome) (left : List Op) → left ≡ []
+    → IsUnderWay asking log ops left words rest commits outcomes
+    → (commits ≡ (all_done asking log (named_ops ops words)).commits) × (outcomes ≡ (all_done asking log (named_ops ops words)).outcomes)
+unfolding all_done
+all_made asking log ops words rest commits outcomes [] e way = (sym (append-nil commits) ∙ way.made, sym (append-nil outcomes) ∙ way.told)
+all_made asking log ops words rest commits outcomes (op ∷ left) e way = absurd (not_nil op left e)
+  where
+    not_nil : (o : Op) (os : List Op) → o ∷ os ≡ [] → ⊥
+    not_nil o os q = let l : suc (length os) ≡ 0 = ap length q in omega (arith, l)

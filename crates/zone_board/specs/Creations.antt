@@ -1,0 +1,40 @@
+-- Creations with their names, and the records that they put.
+use Rattle.std.specs.Prelude.{ℕ, ◌||◌, List, filter_map, Option, Some, None, is_none, option_map, if◌then◌else◌}
+use Rattle.field_values.specs.declared.value.Value.{Value}
+use Rattle.ck_records.specs.declared.draft.Draft.{Draft}
+use Rattle.ck_records.specs.declared.records.Body.TheVariants.{Plain}
+use Rattle.ck_records.specs.declared.records.Record.{Record}
+use Rattle.zone_model.specs.declared.operations.Op.{Op}
+use Rattle.zone_model.specs.PlainCreates.{created_record, is_too_large}
+
+abbrev pub draft_with : Draft → List ℕ → Draft
+draft_with d name = record d { name = Some name }
+
+-- the operation with this name
+abbrev pub with_name : Op → List ℕ → Op
+with_name op name = record op { draft = draft_with op.draft name }
+
+-- the fields that a draft gives, in order
+abbrev pub given_field : List ℕ × Option Value → Option (List ℕ × Value)
+given_field wish = option_map (λ (v : Value). (wish.0, v)) wish.1
+
+abbrev pub given_fields : List (List ℕ × Option Value) → List (List ℕ × Value)
+given_fields wishes = filter_map given_field wishes
+
+-- the first record of a name
+abbrev pub first_of_type : List ℕ → ℕ → List ℕ → List ℕ → List (List ℕ × Value) → Record
+first_of_type user moment name rtype fields = record {
+  name = name;
+  rtype = rtype;
+  tag = 1;
+  parent = None;
+  share = None;
+  fields = fields;
+  created = record { moment = moment; user = user };
+  modified = record { moment = moment; user = user };
+  body = Plain;
+}
+
+-- the record that is put where the name was never put before, unless the draft has no type or is too large
+abbrev pub first_record : List ℕ → ℕ → Draft → Option Record
+first_record user moment d = if is_none d.rtype || is_too_large d then None else Some (created_record user moment (λ _. 0) d)

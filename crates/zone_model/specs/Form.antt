@@ -1,0 +1,96 @@
+-- The form of a commit.
+use Rattle.std.specs.Prelude.{◌≡◌, ◌<◌, ◌≤◌, ◌^◌, ℕ, Bool, true, ◌||◌, List, [], length, map, Option, Some, None}
+use Rattle.std.specs.List.{AllByRecursion}
+use Rattle.ck_base.specs.Names.{IsName}
+use Rattle.ck_base.specs.Order.{are_ascending}
+use Rattle.ck_base.specs.declared.key.ZoneKey.{ZoneKey}
+use Rattle.field_values.specs.declared.value.Value.{Value, out-Value}
+use Rattle.field_values.specs.declared.value.Value.TheOpen.{Value-F}
+use Rattle.field_values.specs.Meant.{IsMeant}
+use Rattle.ck_records.specs.declared.filter.Filter.{Filter}
+use Rattle.ck_records.specs.declared.subscription.SubKind.{SubKind}
+use Rattle.ck_records.specs.declared.subscription.Subscription.{Subscription}
+use Rattle.ck_records.specs.declared.subscription.Fires.{Fires}
+use Rattle.ck_records.specs.Fits.{fits}
+use Rattle.ck_records.specs.Stored.{IsStored}
+use Rattle.zone_model.specs.declared.commits.Write.{Write}
+use Rattle.zone_model.specs.declared.commits.Write.TheVariants.{Put, Remove, PutRemove}
+use Rattle.zone_model.specs.declared.commits.Act.{Act}
+use Rattle.zone_model.specs.declared.commits.Act.TheVariants.{Writes, MakeZone, DropZone, SetSubscription, DropSubscription}
+use Rattle.zone_model.specs.declared.commits.Commit.{Commit}
+use Rattle.zone_model.specs.Limits.{most_filters}
+use Rattle.zone_model.specs.Zones.{written_name}
+
+abbrev pub IsKey : ZoneKey → Type 0
+IsKey key = IsName key.owner × IsName key.zone
+
+abbrev pub IsWrite : Write → Type 0
+IsWrite (Put r) = IsStored r
+IsWrite (Remove x) = IsName x
+IsWrite (PutRemove x) = IsName x
+
+-- the writes ascend by name, so each name is written once
+abbrev pub are_in_order : List Write → Bool
+are_in_order ws = are_ascending (map written_name ws)
+
+pub record AreWrites (ws : List Write) : Type 0 where
+  pub some : (0 < length ws) × (length ws < 2 ^ 32)
+  pub each : AllByRecursion IsWrite ws
+  pub ordered : are_in_order ws ≡ true
+
+-- the lengths of texts, bytes and lists are numbers of four bytes
+abbrev pub IsCountedLevel : Value-F Value → Type 0
+IsCountedLevel (Value-F.Int64 n) = Unit {0}
+IsCountedLevel (Value-F.Timestamp n) = Unit {0}
+IsCountedLevel (Value-F.Text t) = length t < 2 ^ 32
+IsCountedLevel (Value-F.Bytes b) = length b < 2 ^ 32
+IsCountedLevel (Value-F.Reference r) = Unit {0}
+IsCountedLevel (Value-F.List k vs) = length vs < 2 ^ 32
+
+abbrev pub AreElementsCounted : Value-F Value → Type 0
+AreElementsCounted (Value-F.Int64 n) = Unit {0}
+AreElementsCounted (Value-F.Timestamp n) = Unit {0}
+AreElementsCounted (Value-F.Text t) = Unit {0}
+AreElementsCounted (Value-F.Bytes b) = Unit {0}
+AreElementsCounted (Value-F.Reference r) = Unit {0}
+AreElementsCounted (Value-F.List k vs) = AllByRecursion (λ v. IsCountedLevel (out-Value v)) vs
+
+-- each length in the value fits
+abbrev pub IsCounted : Value → Type 0
+IsCounted v = IsCountedLevel (out-Value v) × AreElementsCounted (out-Value v)
+
+-- the value is one that the comparator takes
+pub record IsFilter (f : Filter) : Type 0 where
+  pub field : IsName f.field
+  pub value : IsMeant f.value
+  pub counted : IsCounted f.value
+  pub fitting : fits f.comparator f.value ≡ true
+
+-- a zone's subscription says nothing of records, and a query's names a type and has not too many filters
+abbrev pub IsOfKind : SubKind → Option (List ℕ) → List Filter → Type 0
+IsOfKind SubKind.Zone rtype filters = (rtype ≡ None) × (filters ≡ [])
+IsOfKind SubKind.Query None filters = ⊥
+IsOfKind SubKind.Query (Some rtype) filters = IsName rtype × (length filters ≤ most_filters) × AllByRecursion IsFilter filters
+
+-- it fires on something
+abbrev pub fires_at_all : Fires → Bool
+fires_at_all f = f.create || (f.update || f.delete)
+
+pub record IsKeptSubscription (s : Subscription) : Type 0 where
+  pub named : (id : List ℕ) × (s.id ≡ Some id) × IsName id
+  pub key : IsKey s.key
+  pub fires : fires_at_all s.fires ≡ true
+  pub kind : IsOfKind s.kind s.rtype s.filters
+
+abbrev pub IsActInForm : Act → Type 0
+IsActInForm (Writes ws) = AreWrites ws
+IsActInForm MakeZone = Unit {0}
+IsActInForm DropZone = Unit {0}
+IsActInForm (SetSubscription s) = IsKeptSubscription s
+IsActInForm (DropSubscription scope id) = IsName id
+
+pub record IsInForm (c : Commit) : Type 0 where
+  pub key : IsKey c.key
+  pub user : IsName c.user
+  pub moment : c.moment < 2 ^ 64
+  pub act : IsActInForm c.act

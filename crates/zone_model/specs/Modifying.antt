@@ -1,0 +1,87 @@
+-- What a request on records comes to: its answers and its commits.
+use Rattle.std.specs.Prelude.{ℕ, Bool, not, ◌&&◌, List, [], ◌∷◌, ◌++◌, map, zip, Option, None, if◌then◌else◌, option_and_then}
+use Rattle.std.specs.Option.{option_map_or}
+use Rattle.ck_records.specs.declared.records.Record.{Record}
+use Rattle.zone_model.specs.declared.operations.Op.{Op}
+use Rattle.zone_model.specs.declared.outcomes.OpFault.{OpFault}
+use Rattle.zone_model.specs.declared.outcomes.OpFault.TheVariants.{Exists, NotFound, Conflict, BadRequest, AccessDenied, Validating, Atomic}
+use Rattle.zone_model.specs.declared.outcomes.Outcome.{Outcome}
+use Rattle.zone_model.specs.declared.outcomes.Outcome.TheVariants.{Put, Deleted, Refused}
+use Rattle.zone_model.specs.declared.outcomes.Modified.{Modified}
+use Rattle.zone_model.specs.declared.commits.Commit.{Commit}
+use Rattle.zone_model.specs.Names.{is_default}
+use Rattle.zone_model.specs.Options.{or_else}
+use Rattle.zone_model.specs.Records.{record_at}
+use Rattle.zone_model.specs.Zones.{zone_at, puts_at}
+use Rattle.zone_model.specs.Views.{view_of}
+use Rattle.zone_model.specs.Past.{name_history}
+use Rattle.zone_model.specs.Requests.{Caller, is_deletion, name_of_op, root_given, guids_left}
+use Rattle.zone_model.specs.Judging.{judgement, has_fault}
+use Rattle.zone_model.specs.Effect.{Request, working, stamped, effect}
+
+-- ---- the answers
+
+-- the record whose tag is another one: that of the name, or else the root
+abbrev pub in_conflict : List Record → Op → Option Record
+in_conflict seen op = or_else (record_at seen (name_of_op op)) (option_and_then (record_at seen) (root_given op.draft))
+
+-- only a conflict shows a record
+abbrev pub shown_with : OpFault → List Record → Op → Option Record
+shown_with Exists seen op = None
+shown_with NotFound seen op = None
+shown_with Conflict seen op = in_conflict seen op
+shown_with BadRequest seen op = None
+shown_with AccessDenied seen op = None
+shown_with Validating seen op = None
+shown_with Atomic seen op = None
+
+-- a put is answered with the record of the working view, whatever goes with the removals
+abbrev pub done : Request → Op → Outcome
+done q op =
+    if is_deletion op.kind then Deleted (name_of_op op)
+    else option_map_or (λ r. Put (stamped q r)) (record_at (working q) (name_of_op op)) (Deleted (name_of_op op))
+
+abbrev pub outcome_of : Request → Op × Option OpFault → Outcome
+outcome_of q judged = option_map_or (λ fault. Refused fault (shown_with fault q.seen judged.0)) judged.1 (done q judged.0)
+
+-- ---- at a log
+
+module _ (caller : Caller) (moment : ℕ) where
+  abbrev pub request_at : List Commit → List Op → List (List ℕ) → Request
+  request_at log ops guids = record {
+    caller = caller;
+    moment = moment;
+    seen = (view_of log caller.user caller.scope caller.key).rows;
+    rows = (zone_at log caller.key).rows;
+    puts = puts_at log caller.key;
+    ops = ops;
+    guids = guids;
+  }
+
+  abbrev pub judgement_at : List Commit → List Op → List (Option OpFault)
+  judgement_at log ops = judgement (view_of log caller.user caller.scope caller.key) (name_history log caller.key ops) ops caller
+
+  -- the operations as one: one commit, or none where something is refused or nothing is written
+  abbrev pub effect_at : List Commit → List Op → List (List ℕ) → List Commit
+  effect_at log ops guids = if has_fault (judgement_at log ops) then [] else effect (request_at log ops guids)
+
+  abbrev pub modified_as_one : List Commit → List Op → List (List ℕ) → Modified
+  modified_as_one log ops guids = record {
+    outcomes = map (outcome_of (request_at log ops guids)) (zip ops (judgement_at log ops));
+    commits = effect_at log ops guids;
+  }
+
+  -- the operations one after another, each at the log with the commits of those before it
+  abbrev pub modified_apart : List Commit → List Op → List (List ℕ) → Modified
+  modified_apart log [] guids = record { outcomes = []; commits = [] }
+  modified_apart log (op ∷ ops) guids =
+      let first = modified_as_one log (op ∷ []) guids in
+      let rest = modified_apart (log ++ first.commits) ops (guids_left op guids) in
+      record { outcomes = first.outcomes ++ rest.outcomes; commits = first.commits ++ rest.commits }
+
+  -- an atomic request is judged as one, but never in a default zone
+  abbrev pub modified : List Commit → Bool → List Op → List (List ℕ) → Modified
+  modified log atomic ops guids = if atomic && not (is_default caller.key) then modified_as_one log ops guids else modified_apart log ops guids
+
+  abbrev pub commits_of_request : List Commit → Bool → List Op → List (List ℕ) → List Commit
+  commits_of_request log atomic ops guids = (modified log atomic ops guids).commits

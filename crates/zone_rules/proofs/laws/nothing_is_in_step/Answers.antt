@@ -1,5 +1,0 @@
-use Rattle.zone_rules.proofs.StepLaws.{nothing_in_step}
-use Rattle.zone_rules.proofs.laws.nothing_is_in_step.Goals as goal
-
-pub returns : goal.returns
-returns c = nothing_in_step

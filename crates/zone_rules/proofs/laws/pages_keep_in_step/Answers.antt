@@ -1,6 +1,0 @@
-use Rattle.zone_rules.proofs.PageLaws.{page_in_step, page_is_view}
-use Rattle.zone_rules.proofs.StepLaws.{page_later}
-use Rattle.zone_rules.proofs.laws.pages_keep_in_step.Goals as goal
-
-pub returns : goal.returns
-returns c = record { step = page_in_step; whole = page_is_view; later = page_later }
