@@ -1,5 +1,5 @@
 -- What an ask is given to see, what it answers, and what it makes, at the history that it finds.
-use Rattle.std.specs.Prelude.{ℕ, suc, Bool, true, false, List, [], ◌∷◌, length, map, if◌then◌else◌}
+use Rattle.std.specs.Prelude.{ℕ, suc, Bool, true, false, not, ◌||◌, List, [], ◌∷◌, length, map, if◌then◌else◌}
 use Rattle.ck_base.specs.Names.{lock_of_names}
 use Rattle.ck_base.specs.declared.key.ZoneKey.{ZoneKey}
 use Rattle.ck_base.specs.declared.scope.Scope.{Scope}
@@ -10,7 +10,7 @@ use Rattle.zone_model.specs.declared.events.Event.TheVariants.{Made}
 use Rattle.zone_model.specs.Records.{record_at}
 use Rattle.zone_model.specs.Views.{view_of}
 use Rattle.zone_model.specs.Requests.{Caller}
-use Rattle.zone_model.specs.Modifying.{commits_of_request}
+use Rattle.zone_model.specs.Modifying.{is_judged_as_one, commits_of_request}
 use Rattle.zone_model.specs.Events.{log_of, own}
 use Rattle.modify_ops.specs.Drawing.{named_ops, guids_of}
 use Rattle.board_model.specs.declared.parts.Part.{Part}
@@ -31,7 +31,8 @@ abbrev pub sight : List Event → Part → Sight
 sight events (Modify user scope key atomic ops moment words) =
     let caller = caller_in user scope key in
     let named = named_ops ops words in
-    modifying (op_sight caller moment (log_of events) named) (sights_of caller moment (log_of events) named (guids_at key ops words))
+    let before = op_sight caller moment (log_of events) named in
+    modifying before (if not before.view.here || is_judged_as_one key atomic then [] else sights_of caller moment (log_of events) named (guids_at key ops words))
 sight events (Lookup user scope key names) = viewing (view_of (log_of events) user scope key)
 
 -- what it answers

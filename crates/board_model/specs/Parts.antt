@@ -22,7 +22,7 @@ pub record IsOwnDefault (lock : ℕ) (user : List ℕ) (scope : Scope) (key : Zo
   pub in_default : is_default key ≡ true
   pub named : IsKey key
 
--- at most 200 creates of records that refer to nothing, with a word for each that draws one
+-- at most 200 creates of records that stand alone, with a word for each that draws one
 pub record AreBuilt (ops : List Op) (moment : ℕ) (words : List (List ℕ)) : Type 0 where
   pub few : length ops ≤ 200
   pub plain : list_all is_plain_create ops ≡ true

@@ -1,33 +1,29 @@
 -- What an ask on records is given to see, and what it comes to by that alone.
-use Rattle.std.specs.Prelude.{ℕ, Bool, not, ◌&&◌, List, [], ◌∷◌, ◌++◌, map, zip, find, if◌then◌else◌}
+use Rattle.std.specs.Prelude.{ℕ, Bool, List, [], ◌∷◌, ◌++◌, map, zip, find, if◌then◌else◌}
 use Rattle.std.specs.Option.{option_map_or}
-use Rattle.ck_base.specs.declared.key.ZoneKey.{ZoneKey}
 use Rattle.ck_records.specs.declared.view.View.{View}
 use Rattle.zone_model.specs.declared.operations.Op.{Op}
 use Rattle.zone_model.specs.declared.operations.Past.{Past}
 use Rattle.zone_model.specs.declared.commits.Commit.{Commit}
 use Rattle.zone_model.specs.declared.outcomes.Outcome.{Outcome}
-use Rattle.zone_model.specs.Names.{same, is_default}
+use Rattle.zone_model.specs.Names.{same}
 use Rattle.zone_model.specs.Views.{view_of}
 use Rattle.zone_model.specs.Past.{name_history}
 use Rattle.zone_model.specs.Requests.{Caller, guids_left}
 use Rattle.zone_model.specs.Judging.{judgement}
 use Rattle.zone_model.specs.Effect.{Request}
-use Rattle.zone_model.specs.Modifying.{outcome_of, effect_at}
+use Rattle.zone_model.specs.Modifying.{is_judged_as_one, outcome_of, effect_at}
 
 -- the caller's view of the zone, and what has happened to the names that operations put
 pub record OpSight : Type 0 where
   pub view : View
   pub pasts : List Past
 
--- What an answer may depend on: for a modify what is seen before the request and before each operation, and else the view.
+-- What an answer may depend on: for a modify what is seen before the request and, where the zone is here and the operations are done one
+-- after another, before each of them; and else the view.
 pub data Sight : Type 0 where
   modifying : OpSight → List OpSight → Sight
   viewing : View → Sight
-
--- an atomic request is judged as one, but never in a default zone
-abbrev pub is_judged_as_one : ZoneKey → Bool → Bool
-is_judged_as_one key atomic = atomic && not (is_default key)
 
 -- how often commits have put the name, as far as it is told
 abbrev pub puts_seen : List Past → List ℕ → ℕ

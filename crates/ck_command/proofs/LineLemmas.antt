@@ -3,12 +3,13 @@ use Rattle.std.proofs.Common.{◌≡◌, ℕ, List, ◌++◌, take, drop, refl, 
 use Rattle.std.proofs.lemmas.List.{take-append-drop}
 use Rattle.std.specs.Prelude.{Option}
 use Rattle.std.specs.Io.KnownBytes.{Appends}
+use Rattle.ck_devices.specs.Fronts.{WritesFront}
 use Rattle.ck_devices.proofs.Streams.{appends_on}
 use Rattle.ck_command.specs.Lines.{AppendsFront}
 
-pub front_of : (a b : Option (List ℕ)) (piece xs : List ℕ) → piece ≡ xs → (n : ℕ) × Appends a b (take n piece) → AppendsFront a b xs
+pub front_of : (a b : Option (List ℕ)) (piece xs : List ℕ) → piece ≡ xs → WritesFront a b piece → AppendsFront a b xs
 front_of a b piece xs e h =
-    record { sent = take h.0 piece; unsent = drop h.0 piece; parts = rw (sym e) (sym (rw take-append-drop refl)); appended = h.1 }
+    record { sent = take h.count piece; unsent = drop h.count piece; parts = rw (sym e) (sym (rw take-append-drop refl)); appended = h.wrote }
 
 -- a front of the first text is a front of both
 pub front_of_first : (a b : Option (List ℕ)) (xs ys : List ℕ) → AppendsFront a b xs → AppendsFront a b (xs ++ ys)

@@ -5,7 +5,7 @@ use Rattle.talk_model.specs.declared.ends.End.{End}
 use Rattle.talk_model.specs.declared.ends.End.TheVariants as end
 use Rattle.ck_command.specs.declared.endings.Ending.{Ending}
 use Rattle.ck_command.specs.declared.endings.Ending.TheVariants.{Done, DeviceFault, WrongWords, BadFile, Early, OutOfMemory}
-use Rattle.ck_command.specs.Words.{Asked}
+use Rattle.ck_command.specs.Words.{RunWords}
 use Rattle.ck_command.specs.UsersFile.{HoldsUsers, LacksUsers}
 
 abbrev pub status_of : Ending → ℕ
@@ -37,7 +37,7 @@ ending_of end.BodyTooLong = Early end.BodyTooLong
 ending_of end.Spent = Done
 ending_of end.NotBuilt = Early end.NotBuilt
 
--- an end before the source ended or the service was done with the connection
+-- an end at which the service was not done with the connection, nor had the source ended where a request would begin
 abbrev pub IsEarly : End → Type 0
 IsEarly end.Closed = ⊥
 IsEarly end.CloseAsked = ⊥
@@ -60,7 +60,7 @@ MayServe OutOfMemory = ⊤
 
 -- how a run may end: the words are wrong, or no table of users was loaded, or there is one and the
 -- conversation ended so
-abbrev pub MayEnd : Option Files → Option Asked → Ending → Type 0
+abbrev pub MayEnd : Option Files → Option RunWords → Ending → Type 0
 MayEnd files None ending = ending ≡ WrongWords
 MayEnd files (Some asked) Done = HoldsUsers files asked.users
 MayEnd files (Some asked) DeviceFault = ⊤

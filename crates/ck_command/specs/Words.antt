@@ -5,18 +5,18 @@ use Rattle.std.specs.Str.Parse.{starts_with_minus}
 use Rattle.ck_base.specs.Numbers.{number_of}
 
 -- a file of users, and perhaps a moment that stands for the clock
-pub record Asked : Type 0 where
+pub record RunWords : Type 0 where
   pub users : List ℕ
   pub moment : Option ℕ
 
 -- the file, with the moment that the last word is
-abbrev pub at_moment : List ℕ → Option ℕ → Option Asked
+abbrev pub at_moment : List ℕ → Option ℕ → Option RunWords
 at_moment users None = None
 at_moment users (Some moment) = Some (record { users = users; moment = Some moment })
 
 -- a word that doesn't begin with a hyphen is the file; behind it may stand `--moment` and a number,
 -- and other words ask for nothing
-abbrev pub asked_of : List (List ℕ) → Option Asked
+abbrev pub asked_of : List (List ℕ) → Option RunWords
 asked_of (users ∷ []) =
     if not (starts_with_minus users) then Some (record { users = users; moment = None }) else None
 asked_of (users ∷ flag ∷ number ∷ []) =

@@ -5,8 +5,7 @@ ghost use Rattle.ck_devices.specs.Causes.{HasCause};
 ghost use Rattle.ck_command.specs.Endings.{status_of};
 ghost use Rattle.ck_command.specs.Lines.{name_of, line, line_of, AppendsFront, Tells};
 
-use crate::writing::write_whole;
-use ck_devices::{Failed, Sink};
+use ck_devices::{Failed, Sink, write_whole};
 use ck_server::End;
 
 /// How a run ends.

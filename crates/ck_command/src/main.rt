@@ -8,7 +8,6 @@ ghost use Rattle.ck_command.specs.Lines.{line_of, Tells};
 mod endings;
 mod run;
 mod words;
-mod writing;
 
 use ck_base::Text;
 use ck_devices::{FolderShelf, RandomDevice, ReaderSource, Sink, SystemClock, WriterSink};

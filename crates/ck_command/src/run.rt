@@ -5,7 +5,7 @@ ghost use Rattle.talk_model.specs.Given.{Draws, GaveFor};
 ghost use Rattle.ck_command.specs.Words.{asked_of};
 ghost use Rattle.ck_command.specs.UsersFile.{HoldsUsers};
 ghost use Rattle.ck_command.specs.Endings.{ending_of, MayRefuse, MayServe, MayEnd};
-ghost use Rattle.ck_command.specs.Serving.{Serves, IsTableIn, Converses};
+ghost use Rattle.ck_command.specs.Serving.{RunServes, IsTableIn, Converses};
 ghost use Rattle.ck_command.specs.Runs.{IsThreeAtNoTable, Ran};
 
 use crate::endings::Ending;
@@ -66,7 +66,7 @@ fn answer_all<'a, S: Source, W: Sink, C: Clock, R: Words>(
     words: &mut R,
 ) -> Ending<'a>
     ensures served { MayServe result }
-    ensures serves { Serves users.now (GaveFor C.gives (Draws R.gives R.fault_count) clock.old clock.new words.old words.new)
+    ensures serves { RunServes users.now (GaveFor C.gives (Draws R.gives R.fault_count) clock.old clock.new words.old words.new)
         (S.left source.old) (S.left source.new) (W.held sink.old) (W.held sink.new) result }
     ensures cause { result ≡ Ending.DeviceFault → Rose (S.fault_count source.old) (S.fault_count source.new) ⊎ Rose (W.fault_count sink.old) (W.fault_count sink.new) }
 {

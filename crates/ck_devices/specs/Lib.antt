@@ -4,6 +4,8 @@ pub mod Causes
 pub mod Plans
 -- what a device gave in a row
 pub mod Runs
+-- what was written where a sink failed
+pub mod Fronts
 -- files by name
 pub mod Files
 -- what contracts see of the devices in memory

@@ -12,6 +12,7 @@ mod source;
 mod standard;
 mod system;
 mod words;
+mod writing;
 
 pub use clock::{Clock, FixedClock};
 pub use faults::{Failed, FaultCount, FaultPlan};
@@ -22,3 +23,4 @@ pub use source::{MemSource, Source};
 pub use standard::{ReaderSource, WriterSink};
 pub use system::{RandomDevice, SystemClock};
 pub use words::{CountWords, Words};
+pub use writing::write_whole;

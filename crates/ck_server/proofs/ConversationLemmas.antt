@@ -12,7 +12,7 @@ use Rattle.board_model.specs.declared.answers.Answered.{Answered}
 use Rattle.board_model.specs.Asks.{sight, answer}
 use Rattle.board_model.specs.Turns.{IsAsked}
 use Rattle.http_front.specs.Users.{Table}
-use Rattle.http_front.specs.Reading.{Extends}
+use Rattle.http_front.specs.Reading.{most_piece, ReadsOn}
 use Rattle.talk_model.specs.declared.marks.At.{At}
 use Rattle.talk_model.specs.declared.marks.Mark.{Mark}
 use Rattle.talk_model.specs.Requests.{Wanted, Wants}
@@ -27,7 +27,8 @@ use Rattle.talk_model.proofs.MarkLemmas.{all-map, all-snoc, zip-snoc, concat-sno
 use Rattle.talk_model.proofs.AloneLemmas.{after_all-snoc, alone_text-snoc, ask_leaves}
 use Rattle.talk_model.proofs.TurnLemmas.{turn_front, turn_stays, turn_legal, base-asked, is_at, not_before, own_more, lone_leaves, lone_adds}
 use Rattle.ck_devices.proofs.Streams.{consumes-nil, appends-nil, consumes_on, appends_on}
-use Rattle.ck_server.specs.Conversations.{Standing, IsLone, Conversed, IsSettled}
+use Rattle.ck_server.specs.Conversations.{Standing, IsLone, Conversed, IsSettled, IsOfReply}
+use Rattle.ck_server.proofs.AheadLemmas.{piece_of_little, piece_on}
 use Rattle.ck_server.specs.Answering.{answering, at_of, IsSameBoard, AreAsked, none_asked, one_asked, Replies}
 
 -- nothing was said yet
@@ -40,6 +41,7 @@ conversed-start alone t entry = record {
   few = omega arith;
   closing = inl tt;
   consumed = consumes-nil entry.left;
+  ahead = piece_of_little [] (omega arith);
   grown = grows_same entry.histories;
   stay = λ lock n e. e;
   legal = λ all. all;
@@ -51,9 +53,9 @@ conversed-start alone t entry = record {
 }
 
 -- what was read stands behind the requests
-abbrev pub conversed_took : (alone : Type 0) (t : Table) (entry now : Standing) (left : Option (List ℕ)) (marks : List Mark) (old new last unsent : List ℕ) → (c : Conversed alone t entry now marks old last unsent) → Extends now.left left old new
+abbrev pub conversed_took : (alone : Type 0) (t : Table) (entry now : Standing) (left : Option (List ℕ)) (marks : List Mark) (old new last unsent : List ℕ) → (c : Conversed alone t entry now marks old last unsent) → length old < most_piece → ReadsOn now.left left old new
     → Conversed alone t entry (record { left = left; held = now.held; histories = now.histories; seats = now.seats }) marks new last unsent
-conversed_took alone t entry now left marks old new last unsent c read = record {
+conversed_took alone t entry now left marks old new last unsent c little read = record {
   requests = c.requests;
   wanted = c.wanted;
   sent = c.sent;
@@ -63,6 +65,7 @@ conversed_took alone t entry now left marks old new last unsent c read = record 
   consumed =
       let bytes_are : (concat c.requests ++ old) ++ read.taken ≡ concat c.requests ++ new = append_assoc (concat c.requests) old read.taken ∙ ap (λ b. concat c.requests ++ b) (sym read.grown) in
       subst (λ b. Consumes entry.left left b) bytes_are (consumes_on entry.left now.left left _ _ c.consumed read.consumed);
+  ahead = piece_on now.left left old new little read;
   grown = c.grown;
   stay = c.stay;
   legal = c.legal;
@@ -84,6 +87,7 @@ conversed_sent alone t entry now held marks rest last sent unsent c parts append
   few = c.few;
   closing = c.closing;
   consumed = c.consumed;
+  ahead = c.ahead;
   grown = c.grown;
   stay = c.stay;
   legal = c.legal;
@@ -242,10 +246,10 @@ module _ (alone here : Type 0) (known : alone → here) (t : Table) (entry now :
       talk_all = sym (append-nil (talk c.wanted old now.histories)) ∙ (c.text ∙ append-nil c.sent)
 
       -- the request was marked, and its reply was written but for unsent
-      conversed_marked : number < most_requests → (open_now : AreOpen c.wanted) → (buffer2 : List ℕ) (bytes taken : List ℕ) → Consumes now.left left2 taken → buffer ++ taken ≡ bytes ++ buffer2 → Wants t bytes w
+      conversed_marked : number < most_requests → (open_now : AreOpen c.wanted) → (buffer2 : List ℕ) → length buffer2 < most_piece → (bytes taken : List ℕ) → Consumes now.left left2 taken → buffer ++ taken ≡ bytes ++ buffer2 → Wants t bytes w
           → (sent unsent : List ℕ) → reply ≡ sent ++ unsent → Appends now.held held2 sent
-          → (c2 : Conversed alone t entry later (old ++ m ∷ []) buffer2 [] unsent) × (c2.wanted ≡ c.wanted ++ w ∷ []) × IsSettled alone entry later (old ++ m ∷ []) c2.wanted
-      conversed_marked few open_now buffer2 bytes taken consumed parts is sent unsent text_is appended = (
+          → (c2 : Conversed alone t entry later (old ++ m ∷ []) buffer2 [] unsent) × (c2.wanted ≡ c.wanted ++ w ∷ []) × IsSettled alone entry later (old ++ m ∷ []) c2.wanted × IsOfReply alone entry later c2.wanted (old ++ m ∷ []) unsent
+      conversed_marked few open_now buffer2 little bytes taken consumed parts is sent unsent text_is appended = (
         record {
           requests = c.requests ++ bytes ∷ [];
           wanted = c.wanted ++ w ∷ [];
@@ -258,6 +262,7 @@ module _ (alone here : Type 0) (known : alone → here) (t : Table) (entry now :
               append_assoc (concat c.requests) buffer taken ∙ (ap (λ b. concat c.requests ++ b) parts
               ∙ (sym (append_assoc (concat c.requests) bytes buffer2) ∙ ap (λ b. b ++ buffer2) (sym (concat-snoc c.requests bytes)))) in
               subst (λ b. Consumes entry.left left2 b) bytes_are (consumes_on entry.left now.left left2 _ _ c.consumed consumed);
+          ahead = piece_of_little buffer2 little;
           grown = grows_on entry.histories now.histories h2 c.grown h.grown;
           stay = λ lock n e. h.stays lock n (c.stay lock n e);
           legal = λ all lock. h.legal lock (c.legal all lock);
@@ -273,16 +278,26 @@ module _ (alone here : Type 0) (known : alone → here) (t : Table) (entry now :
           own = subst (λ ats. OwnAreMarked s2 entry.histories h2 ats) (sym (asks_in-snoc old m)) h.own;
           left_behind = left_behind_now;
         },
+        record {
+          earlier = c.wanted;
+          request = w;
+          before = old;
+          mark = m;
+          requests_are = refl;
+          marks_are = refl;
+          ends = (sent, reply_is ∙ text_is);
+          said = λ lone. (sent, ap (reply_of w (given_of m)) (h.run_answers lone) ∙ text_is);
+        },
       )
 
   -- a whole request was taken and answered, and of the reply all but unsent was written
-  pub conversed_on : number < most_requests → AreOpen c.wanted → (gave : List Given → Type 0) (new : List Mark) (buffer2 unsent bytes taken : List ℕ) (w : Wanted)
+  pub conversed_on : number < most_requests → AreOpen c.wanted → (gave : List Given → Type 0) (new : List Mark) (buffer2 unsent bytes taken : List ℕ) (w : Wanted) → length buffer2 < most_piece
       → Consumes now.left left2 taken → buffer ++ taken ≡ bytes ++ buffer2 → Wants t bytes w → Replies here gave number (answering now.held now.histories now.seats) (answering held2 h2 s2) old new w unsent
-      → (c2 : Conversed alone t entry later new buffer2 [] unsent) × (c2.wanted ≡ c.wanted ++ w ∷ []) × IsSettled alone entry later new c2.wanted
-  conversed_on few open_now gave new buffer2 unsent bytes taken w consumed parts is rep =
-      subst (λ (marks : List Mark). (c2 : Conversed alone t entry later marks buffer2 [] unsent) × (c2.wanted ≡ c.wanted ++ w ∷ []) × IsSettled alone entry later marks c2.wanted) (sym rep.marks)
+      → (c2 : Conversed alone t entry later new buffer2 [] unsent) × (c2.wanted ≡ c.wanted ++ w ∷ []) × IsSettled alone entry later new c2.wanted × IsOfReply alone entry later c2.wanted new unsent
+  conversed_on few open_now gave new buffer2 unsent bytes taken w little consumed parts is rep =
+      subst (λ (marks : List Mark). (c2 : Conversed alone t entry later marks buffer2 [] unsent) × (c2.wanted ≡ c.wanted ++ w ∷ []) × IsSettled alone entry later marks c2.wanted × IsOfReply alone entry later c2.wanted marks unsent) (sym rep.marks)
       (conversed_marked w rep.mark rep.answers (has_asked w rep.mark rep.answers (same_asked rep.asked)) rep.request rep.words
-      few open_now buffer2 bytes taken consumed parts is rep.sent unsent rep.text rep.appended)
+      few open_now buffer2 little bytes taken consumed parts is rep.sent unsent rep.text rep.appended)
     where
       same_asked : {askeds : List Asked} {ats : List At} {answers : List Answer} → AreAsked here (answering now.held now.histories now.seats) (answering held2 h2 s2) askeds ats answers → AreAsked here now later askeds ats answers
       same_asked (none_asked a b d e) = none_asked a b d e

@@ -2,10 +2,14 @@ pub mod BuiltLemmas
 pub mod WantLemmas
 pub mod DrawingLemmas
 pub mod ReplyLemmas
+-- how far a conversation reads ahead
+pub mod AheadLemmas
 -- a conversation goes on
 pub mod ConversationLemmas
 -- where a conversation stands after each of its steps
 pub mod OutcomeLemmas
+-- whole requests are all answered
+pub mod CompleteLemmas
 -- statuses of replies, and what is sent
 pub mod SendingLemmas
 -- how a request is served

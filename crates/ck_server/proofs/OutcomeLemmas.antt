@@ -1,11 +1,11 @@
 -- Where a conversation stands after each of its steps.
-use Rattle.std.proofs.Common.{◌≡◌, Bool, true, false, ℕ, ◌+◌, ◌<◌, ◌≤◌, List, [], ◌∷◌, ◌++◌, length, take, drop, refl, sym, ap, subst, ◌∙◌, arith, inl, inr, append-nil, length-append, Option, Some, None, Result, Ok, Err}
+use Rattle.std.proofs.Common.{◌≡◌, true, false, ℕ, ◌+◌, ◌<◌, List, [], ◌∷◌, ◌++◌, length, take, drop, refl, sym, ap, subst, ◌∙◌, arith, inl, inr, append-nil, length-append, Option, Some, None, Ok, Err}
 use Rattle.std.proofs.lemmas.List.{drop_all, take-append-drop}
 use Rattle.std.specs.Prelude.{⊤, ◌⊎◌}
-use Rattle.std.specs.List.{AllByRecursion, Contains, concat}
-use Rattle.std.specs.Io.KnownBytes.{Appends, IsAtEnd}
+use Rattle.std.specs.List.{AllByRecursion, Contains}
+use Rattle.std.specs.Io.KnownBytes.{Appends}
 use Rattle.zone_model.specs.declared.events.Event.{Event}
-use Rattle.zone_model.specs.Histories.{Histories, IsFront, Grows}
+use Rattle.zone_model.specs.Histories.{Histories, Grows}
 use Rattle.zone_model.specs.Events.{own_of}
 use Rattle.zone_model.specs.Legal.{IsLegal}
 use Rattle.board_model.specs.declared.parts.Part.{Part}
@@ -13,29 +13,28 @@ use Rattle.board_model.specs.Turns.{MayHaveAsked}
 use Rattle.http_front.specs.declared.faults.FrontFault.{FrontFault}
 use Rattle.http_front.specs.declared.faults.FrontFault.TheVariants as fault
 use Rattle.http_front.specs.declared.request.Request.{Request}
-use Rattle.http_front.specs.Requests.{IsUnfinished}
-use Rattle.http_front.specs.Reading.{Extends, TakesRequest, IsFault}
+use Rattle.http_front.specs.Reading.{most_piece, ReadsOn, TakesRequest, IsFault}
 use Rattle.http_front.specs.Users.{Table}
 use Rattle.talk_model.specs.declared.marks.Mark.{Mark}
 use Rattle.talk_model.specs.declared.ends.End.{End}
 use Rattle.talk_model.specs.declared.ends.End.TheVariants.{Closed, CloseAsked, Cut, BadHead, HeadTooLong, NoLength, BodyTooLong, Spent, NotBuilt}
 use Rattle.talk_model.specs.declared.ends.TalkFaultKind.{TalkFaultKind}
 use Rattle.talk_model.specs.declared.ends.TalkFaultKind.TheVariants.{ReadFault, WriteFault, NoMemory}
-use Rattle.talk_model.specs.Requests.{Wanted, Wants, want_of}
+use Rattle.talk_model.specs.Requests.{Wanted, Wants}
 use Rattle.talk_model.specs.Given.{Given, given_of, givens_of}
 use Rattle.talk_model.specs.Calls.{Asked}
 use Rattle.talk_model.specs.Connections.{most_requests, GoOn, AreOpen, LeavesAt, last_text}
 use Rattle.talk_model.specs.Marks.{SeatsStay}
 use Rattle.talk_model.proofs.GrowthLemmas.{grows_on, grows_same, marks-grown, talk-grown}
-use Rattle.talk_model.proofs.MarkLemmas.{givens_of-snoc, marks-length, all-snoc}
+use Rattle.talk_model.proofs.MarkLemmas.{givens_of-snoc, marks-length, all-map, all-snoc}
 use Rattle.talk_model.proofs.TurnLemmas.{turn_front, turn_stays, turn_legal}
 use Rattle.ck_devices.proofs.Streams.{appends_on}
-use Rattle.ck_server.specs.declared.serving.Served.{Served}
 use Rattle.ck_server.specs.declared.serving.Served.TheVariants as served
-use Rattle.ck_server.specs.Conversations.{Standing, Conversed, IsSettled}
-use Rattle.ck_server.specs.Answering.{answering, IsSameBoard, IsWanted, IsServed, WasAsking, GivesUp, IsLeft, Serves}
+use Rattle.ck_server.specs.Conversations.{Standing, Conversed, IsSettled, IsOfReply}
+use Rattle.ck_server.specs.Answering.{answering, IsSameBoard, IsWanted, IsGivenFor, IsServed, WasAsking, GivesUp, IsLeft, Serves}
 use Rattle.ck_server.specs.Finishing.{end_at, BreaksLast, Finishes}
-use Rattle.ck_server.specs.Outcomes.{EndsSource, IsLast, EndsWell, HasAskInHand, BreaksOff}
+use Rattle.ck_server.specs.Outcomes.{EndsSource, ReadsNoFurtherAt, IsLast, EndsWell, IsInHand, BreaksOff}
+use Rattle.ck_server.proofs.AheadLemmas.{little_behind}
 use Rattle.ck_server.proofs.ConversationLemmas.{conversed-start, conversed_took, conversed_sent, conversed_on}
 
 -- between two requests
@@ -43,6 +42,7 @@ pub record Goes (alone : Type 0) (t : Table) (entry now : Standing) (marks : Lis
   pub conversed : Conversed alone t entry now marks buffer [] []
   pub settled : IsSettled alone entry now marks conversed.wanted
   pub go_on : GoOn conversed.wanted
+  pub little : length buffer < most_piece
 
 -- the same with other bytes left
 abbrev pub with_left : Standing → Option (List ℕ) → Standing
@@ -63,6 +63,7 @@ goes-start alone t entry = record {
     left_behind = λ lone lock. refl;
   };
   go_on = tt;
+  little = omega arith;
 }
 
 the_end : (a b : End) → Some a ≡ Some b → a ≡ b
@@ -92,22 +93,23 @@ module _ (alone : Type 0) (t : Table) (gave : List Given → Type 0) (entry now 
       leaves = (sym as_many ∙ all, goes.go_on);
     };
     source = tt;
+    ahead = goes.little;
     given = given;
   }
 
   -- where no further request was read
-  module _ (few : length marks < most_requests) (left held : Option (List ℕ)) (new : List ℕ) (read : Extends now.left left buffer new) where
+  module _ (few : length marks < most_requests) (left held : Option (List ℕ)) (new : List ℕ) (read : ReadsOn now.left left buffer new) where
     abbrev took : Conversed alone t entry (with_left now left) marks new [] []
-    took = conversed_took alone t entry now left marks buffer new [] [] goes.conversed read
+    took = conversed_took alone t entry now left marks buffer new [] [] goes.conversed goes.little read
 
     -- what the fault says of the bytes
-    leaves : (f : FrontFault) (end : End) → IsFault f left new → end_at f ≡ Some end → LeavesAt t end (goes.conversed).wanted new × EndsSource end left
-    leaves fault.Ended end fault_is is = subst (λ (e : End). LeavesAt t e (goes.conversed).wanted new × EndsSource e left) (the_end Closed end is) ((are_open few, fault_is.1), fault_is.0)
-    leaves fault.Cut end fault_is is = subst (λ (e : End). LeavesAt t e (goes.conversed).wanted new × EndsSource e left) (the_end Cut end is) ((are_open few, fault_is.1, fault_is.2), fault_is.0)
-    leaves fault.BadHead end fault_is is = subst (λ (e : End). LeavesAt t e (goes.conversed).wanted new × EndsSource e left) (the_end BadHead end is) ((are_open few, fault_is), tt)
-    leaves fault.HeadTooLong end fault_is is = subst (λ (e : End). LeavesAt t e (goes.conversed).wanted new × EndsSource e left) (the_end HeadTooLong end is) ((are_open few, fault_is), tt)
-    leaves fault.NoLength end fault_is is = subst (λ (e : End). LeavesAt t e (goes.conversed).wanted new × EndsSource e left) (the_end NoLength end is) ((are_open few, fault_is), tt)
-    leaves fault.BodyTooLong end fault_is is = subst (λ (e : End). LeavesAt t e (goes.conversed).wanted new × EndsSource e left) (the_end BodyTooLong end is) ((are_open few, fault_is), tt)
+    leaves : (f : FrontFault) (end : End) → IsFault f left new → end_at f ≡ Some end → LeavesAt t end (goes.conversed).wanted new × EndsSource end left × ReadsNoFurtherAt end new
+    leaves fault.Ended end fault_is is = subst (λ (e : End). LeavesAt t e (goes.conversed).wanted new × EndsSource e left × ReadsNoFurtherAt e new) (the_end Closed end is) ((are_open few, fault_is.1), fault_is.0, tt)
+    leaves fault.Cut end fault_is is = subst (λ (e : End). LeavesAt t e (goes.conversed).wanted new × EndsSource e left × ReadsNoFurtherAt e new) (the_end Cut end is) ((are_open few, fault_is.1, fault_is.2), fault_is.0, tt)
+    leaves fault.BadHead end fault_is is = subst (λ (e : End). LeavesAt t e (goes.conversed).wanted new × EndsSource e left × ReadsNoFurtherAt e new) (the_end BadHead end is) ((are_open few, fault_is), tt, tt)
+    leaves fault.HeadTooLong end fault_is is = subst (λ (e : End). LeavesAt t e (goes.conversed).wanted new × EndsSource e left × ReadsNoFurtherAt e new) (the_end HeadTooLong end is) ((are_open few, fault_is), tt, tt)
+    leaves fault.NoLength end fault_is is = subst (λ (e : End). LeavesAt t e (goes.conversed).wanted new × EndsSource e left × ReadsNoFurtherAt e new) (the_end NoLength end is) ((are_open few, fault_is), tt, tt)
+    leaves fault.BodyTooLong end fault_is is = subst (λ (e : End). LeavesAt t e (goes.conversed).wanted new × EndsSource e left × ReadsNoFurtherAt e new) (the_end BodyTooLong end is) ((are_open few, fault_is), tt, tt)
     leaves fault.ReadFault end fault_is is = absurd (cc)
     leaves fault.NoMemory end fault_is is = absurd (cc)
 
@@ -124,6 +126,7 @@ module _ (alone : Type 0) (t : Table) (gave : List Given → Type 0) (entry now 
           settled = settled_with left held;
           reads = record { requests = (goes.conversed).requests; rest = new; bytes_are = refl; each = (goes.conversed).each; leaves = l.0 };
           source = l.1;
+          ahead = l.2;
           given = given;
         }
 
@@ -154,6 +157,7 @@ module _ (alone : Type 0) (t : Table) (gave : List Given → Type 0) (entry now 
       conversed = cut_last f fault_is b;
       settled = settled_with left held;
       ends = is_last f fault_is b;
+      late = inl (take b.count (last_text b.end), parts f fault_is b);
       given = given;
     }
     broke f NoMemory fault_is (inl none) = record {
@@ -162,8 +166,10 @@ module _ (alone : Type 0) (t : Table) (gave : List Given → Type 0) (entry now 
       unsent = [];
       more = [];
       conversed = said_last [] [] [] refl none.1;
-      in_hand = record { before = with_both now left held; settled = settled_with left held; one = omega arith; since = inl refl };
+      in_hand = record { before = with_both now left held; settled = settled_with left held; one = omega arith; hand = tt; since = inl refl };
       ends = inl refl;
+      late = inl ([], refl);
+      one_thing = inl refl;
       given = subst gave (sym (append-nil (givens_of marks))) given;
     }
     broke f NoMemory fault_is (inr b) = record {
@@ -172,8 +178,10 @@ module _ (alone : Type 0) (t : Table) (gave : List Given → Type 0) (entry now 
       unsent = drop b.count (last_text b.end);
       more = [];
       conversed = cut_last f fault_is b;
-      in_hand = record { before = with_both now left held; settled = settled_with left held; one = omega arith; since = inl refl };
+      in_hand = record { before = with_both now left held; settled = settled_with left held; one = omega arith; hand = tt; since = inl refl };
       ends = is_last f fault_is b;
+      late = inl (take b.count (last_text b.end), parts f fault_is b);
+      one_thing = inr refl;
       given = subst gave (sym (append-nil (givens_of marks))) given;
     }
 
@@ -190,6 +198,7 @@ conversed_grown alone t entry now held h s marks rest c grown stay legal kept =
       few = c.few;
       closing = c.closing;
       consumed = c.consumed;
+      ahead = c.ahead;
       grown = grows_on entry.histories now.histories h c.grown grown;
       stay = λ lock n e. stay lock n (c.stay lock n e);
       legal = λ all lock. legal lock (c.legal all lock);
@@ -240,6 +249,10 @@ module _ (alone here : Type 0) (known : alone → here) (t : Table) (entry now :
   open_now : AreOpen (goes.conversed).wanted
   open_now = record { few = omega (arith, few, count, as_many alone t (λ given. ⊤) entry now old buffer goes tt); go_on = goes.go_on }
 
+  -- less is left over than one read takes
+  little_now : length buffer2 < most_piece
+  little_now = little_behind now.left left2 buffer buffer2 r goes.little takes
+
   wants : (w : Wanted) → IsWanted t r w → Wants t takes.bytes w
   wants w is = record { request = r; is = takes.is; close = is.close; want = is.want }
 
@@ -248,12 +261,13 @@ module _ (alone here : Type 0) (known : alone → here) (t : Table) (entry now :
     conversed : Conversed alone t entry standing new buffer2 [] unsent
     wanted_are : conversed.wanted ≡ (goes.conversed).wanted ++ w ∷ []
     settled : IsSettled alone entry standing new conversed.wanted
+    of_reply : IsOfReply alone entry standing conversed.wanted new unsent
 
   one_more : (unsent : List ℕ) → (s : IsServed here gave_step number before after old new t r unsent) → OneMore s.0 unsent
   one_more unsent s =
-      let on = conversed_on alone here known t entry now old buffer goes.conversed goes.settled number count left2 held2 h2 s2 few open_now gave_step new buffer2 unsent takes.bytes takes.taken s.0
+      let on = conversed_on alone here known t entry now old buffer goes.conversed goes.settled number count left2 held2 h2 s2 few open_now gave_step new buffer2 unsent takes.bytes takes.taken s.0 little_now
       takes.consumed takes.parts (wants s.0 s.1) s.2 in
-      record { conversed = on.0; wanted_are = on.1; settled = on.2 }
+      record { conversed = on.0; wanted_are = on.1; settled = on.2; of_reply = on.3 }
 
   given_now : (unsent : List ℕ) → IsServed here gave_step number before after old new t r unsent → gave (givens_of new)
   given_now unsent s =
@@ -271,6 +285,7 @@ module _ (alone here : Type 0) (known : alone → here) (t : Table) (entry now :
           conversed = m.conversed;
           settled = m.settled;
           go_on = subst GoOn (sym m.wanted_are) (all-snoc (λ (w : Wanted). w.close ≡ false) (goes.conversed).wanted s.0 goes.go_on ((s.1).close ∙ stays));
+          little = little_now;
         },
         given_now [] s,
         counted [] s,
@@ -292,14 +307,15 @@ module _ (alone here : Type 0) (known : alone → here) (t : Table) (entry now :
           leaves = record { before = (goes.conversed).wanted; last = s.0; parts = m.wanted_are; open_before = open_now; closes = (s.1).close ∙ asks };
         };
         source = tt;
+        ahead = little_now;
         given = given_now [] s;
       }
 
-  abbrev read : Extends now.left left2 buffer (takes.bytes ++ buffer2)
-  read = record { taken = takes.taken; consumed = takes.consumed; grown = sym takes.parts }
+  abbrev read : ReadsOn now.left left2 buffer (takes.bytes ++ buffer2)
+  read = record { taken = takes.taken; consumed = takes.consumed; grown = sym takes.parts; ahead = takes.ahead }
 
   abbrev took_it : Conversed alone t entry (with_left now left2) old (takes.bytes ++ buffer2) [] []
-  took_it = conversed_took alone t entry now left2 old buffer (takes.bytes ++ buffer2) [] [] goes.conversed read
+  took_it = conversed_took alone t entry now left2 old buffer (takes.bytes ++ buffer2) [] [] goes.conversed goes.little read
 
   abbrev kept : Standing
   kept = record { left = left2; held = held2; histories = now.histories; seats = now.seats }
@@ -334,8 +350,24 @@ module _ (alone here : Type 0) (known : alone → here) (t : Table) (entry now :
       leaves = (open_now, record { request = r; has = record { front = takes.bytes; rest = buffer2; parts = refl; is = takes.is }; want = l.want });
     };
     source = tt;
+    ahead = tt;
     given = subst gave (append-nil (givens_of old)) (join [] l.given);
   })
+
+  -- what was given for the request that was taken
+  hand_of : (g : Given) → IsGivenFor t r g → IsInHand t (goes.conversed).wanted (takes.bytes ++ buffer2) g
+  hand_of g k = record {
+    request = takes.bytes;
+    behind = buffer2;
+    wanted = k.wanted;
+    open_before = open_now;
+    whole = refl;
+    means = wants k.wanted k.is;
+    words = k.words;
+  }
+
+  hands : (more : List Given) → AllByRecursion (IsGivenFor t r) more → AllByRecursion (IsInHand t (goes.conversed).wanted (takes.bytes ++ buffer2)) more
+  hands more known = all-map (IsGivenFor t r) (IsInHand t (goes.conversed).wanted (takes.bytes ++ buffer2)) hand_of more known
 
   -- memory ran out before the mark
   gave_up : (up : GivesUp here gave_step before after old new t r) → BreaksOff alone t gave entry standing old NoMemory
@@ -348,8 +380,10 @@ module _ (alone here : Type 0) (known : alone → here) (t : Table) (entry now :
         unsent = [];
         more = up.more;
         conversed = kept_it same up.appended;
-        in_hand = record { before = kept; settled = settled_before; one = up.one; since = inl (same_board same) };
+        in_hand = record { before = kept; settled = settled_before; one = up.one; hand = hands up.more up.known; since = inl (same_board same) };
         ends = inl refl;
+        late = inl ([], refl);
+        one_thing = inl refl;
         given = join up.more up.given;
       }
       by_board (inr asking) =
@@ -366,21 +400,28 @@ module _ (alone here : Type 0) (known : alone → here) (t : Table) (entry now :
               before = kept;
               settled = settled_before;
               one = up.one;
+              hand = hands up.more up.known;
               since = inr (record {
-                request = takes.bytes;
-                behind = buffer2;
-                wanted = asking.wanted;
                 given = asking.given;
-                asked = asking.ask;
-                open_before = open_now;
-                whole = refl;
-                means = wants asking.wanted asking.is;
                 last = asking.last;
+                hand = record {
+                  request = takes.bytes;
+                  behind = buffer2;
+                  wanted = asking.wanted;
+                  open_before = open_now;
+                  whole = refl;
+                  means = wants asking.wanted asking.is;
+                  words = inr asking.words;
+                };
+                drawn = asking.words;
+                asked = asking.ask;
                 among = subst (λ (askeds : List Asked). Contains askeds asking.ask) (sym asking.the_ask) (0, omega arith, refl);
                 may = may_known alone here known now.seats s2 now.histories h2 lock (asking.ask).part asking.may;
               });
             };
             ends = inl refl;
+            late = inl ([], refl);
+            one_thing = inl refl;
             given = join up.more up.given;
           }
 
@@ -389,7 +430,16 @@ module _ (alone here : Type 0) (known : alone → here) (t : Table) (entry now :
   breaks_serving ReadFault serves = absurd serves
   breaks_serving WriteFault serves =
       let m = one_more serves.0 serves.1 in
-      record { rest = buffer2; last = []; unsent = serves.0; conversed = m.conversed; settled = m.settled; ends = inl refl; given = given_now serves.0 serves.1 }
+      record {
+        rest = buffer2;
+        last = [];
+        unsent = serves.0;
+        conversed = m.conversed;
+        settled = m.settled;
+        ends = inl refl;
+        late = inr (refl, little_now, m.of_reply);
+        given = given_now serves.0 serves.1;
+      }
   breaks_serving NoMemory (inl serves) =
       let m = one_more serves.0 serves.1 in
       record {
@@ -398,8 +448,10 @@ module _ (alone here : Type 0) (known : alone → here) (t : Table) (entry now :
         unsent = serves.0;
         more = [];
         conversed = m.conversed;
-        in_hand = record { before = standing; settled = m.settled; one = omega arith; since = inl refl };
+        in_hand = record { before = standing; settled = m.settled; one = omega arith; hand = tt; since = inl refl };
         ends = inl refl;
+        late = inr (refl, little_now, m.of_reply);
+        one_thing = inr refl;
         given = subst gave (sym (append-nil (givens_of new))) (given_now serves.0 serves.1);
       }
   breaks_serving NoMemory (inr up) = subst (λ (marks : List Mark). BreaksOff alone t gave entry standing marks NoMemory) (sym up.marks) (gave_up up)

@@ -1,6 +1,6 @@
 -- How a request is served.
 use Rattle.std.proofs.Common.{◌≡◌, ℕ, ◌<◌, ◌≤◌, ◌^◌, Bool, true, false, List, [], ◌∷◌, ◌++◌, length, take, drop, refl, sym, ap, subst, ◌∙◌, arith, inl, inr, append-nil, Option, Some, None, Result, Ok, Err}
-use Rattle.std.specs.Prelude.{◌⊎◌, ◌&&◌}
+use Rattle.std.specs.Prelude.{◌⊎◌}
 use Rattle.std.proofs.lemmas.List.{take-append-drop}
 use Rattle.std.proofs.lemmas.Bool.{and_parts}
 use Rattle.std.specs.Result.{IsErrAnd}
@@ -16,7 +16,7 @@ use Rattle.board_model.specs.Parts.{IsOwnDefault, MayBeAsked}
 use Rattle.board_model.specs.declared.answers.Answer.{Answer}
 use Rattle.board_model.specs.declared.answers.Answer.TheVariants as answer
 use Rattle.board_model.specs.declared.answers.Answered.{Answered}
-use Rattle.board_model.specs.Turns.{IsAsked, MayHaveAsked}
+use Rattle.board_model.specs.Turns.{MayHaveAsked}
 use Rattle.ck_devices.specs.Runs.{GivesInTurn}
 use Rattle.ck_devices.specs.declared.faults.Failed.{Failed}
 use Rattle.ck_devices.proofs.Streams.{appends-nil}
@@ -35,7 +35,7 @@ use Rattle.talk_model.specs.declared.ends.TalkFaultKind.{TalkFaultKind}
 use Rattle.talk_model.specs.declared.ends.TalkFaultKind.TheVariants.{ReadFault, WriteFault, NoMemory}
 use Rattle.wire_calls.specs.Meant.{IsMeantZone}
 use Rattle.talk_model.specs.Requests.{Wanted, is_private, is_own_default, want_of}
-use Rattle.talk_model.specs.Given.{Given, given_of, words_of_call, AreSoMany, AreWordsFor, draws_in, draws_of, GaveFor}
+use Rattle.talk_model.specs.Given.{Given, given_of, words_of_call, AreSoMany, AreWordsFor, draws_in, GaveFor}
 use Rattle.talk_model.specs.Calls.{Asked, scope_of, lock_of_zone, zone_of, part_of, asks_by, asks_of, reply_to, reply_for, reply_of, text_of}
 use Rattle.ck_server.specs.declared.serving.Served.{Served}
 use Rattle.ck_server.specs.declared.serving.Served.TheVariants as served
@@ -43,8 +43,8 @@ use Rattle.ck_server.specs.declared.serving.Told.{Told}
 use Rattle.ck_server.specs.Conversations.{Standing}
 use Rattle.ck_server.specs.Askable.{IsServable}
 use Rattle.ck_server.specs.Forms.{form_of, HasMeantOps, reply_from}
-use Rattle.ck_server.specs.Answering.{answering, at_of, IsSameBoard, AreAsked, none_asked, one_asked, IsWanted, IsServed, WasAsking, GivesUp, IsLeft, Serves, Sends}
-use Rattle.ck_server.specs.Marking.{given_with, IsMarked, Marked, NotMarked, ask_for, IsTold, ServesWant, Refuses, GaveOne}
+use Rattle.ck_server.specs.Answering.{answering, at_of, IsSameBoard, AreAsked, none_asked, one_asked, IsWanted, IsGivenFor, IsServed, WasAsking, Serves, Sends}
+use Rattle.ck_server.specs.Marking.{given_with, IsMarked, NotMarked, ask_for, IsTold, ServesWant, Refuses, GaveOne}
 
 -- ---- a request that was marked
 
@@ -117,7 +117,7 @@ serves_by alone gave gave2 number before after old new t r on res serves = by_re
     by_result (Err ReadFault) s = absurd s
     by_result (Err WriteFault) s = (s.0, again s.0 s.1)
     by_result (Err NoMemory) (inl s) = inl (s.0, again s.0 s.1)
-    by_result (Err NoMemory) (inr up) = inr (record { marks = up.marks; more = up.more; one = up.one; given = on up.more up.given; may = up.may; appended = up.appended })
+    by_result (Err NoMemory) (inr up) = inr (record { marks = up.marks; more = up.more; one = up.one; known = up.known; given = on up.more up.given; may = up.may; appended = up.appended })
 
 -- a moment and the words of one request
 pub gave_for : {C R : Type 0} (clock : C → ℕ → C → Type 0) (draws : R → Result (List ℕ) Failed → R → Type 0) (c c2 : C) (r r2 : R) (moment : ℕ) → clock c moment c2 → (given : List Given) → GaveOne moment draws r r2 given
@@ -137,12 +137,13 @@ by_memory X (Ok x) err k = absurd err
 by_memory X (Err e) err k = subst (λ (at : TalkFaultKind). X (Err at)) (sym err) k
 
 -- nothing was done
-pub given_up : (alone : Type 0) (gave : List Given → Type 0) (number : ℕ) (held : Option (List ℕ)) (h : Histories Event) (s : ℕ → Option ℕ) (marks : List Mark) (t : Table) (r : Request) (more : List Given) → length more ≤ 1 → gave more
+pub given_up : (alone : Type 0) (gave : List Given → Type 0) (number : ℕ) (held : Option (List ℕ)) (h : Histories Event) (s : ℕ → Option ℕ) (marks : List Mark) (t : Table) (r : Request) (more : List Given) → length more ≤ 1 → AllByRecursion (IsGivenFor t r) more → gave more
     → Serves alone gave number (answering held h s) (answering held h s) marks marks t r (Err NoMemory)
-given_up alone gave number held h s marks t r more one given = inr (record {
+given_up alone gave number held h s marks t r more one known given = inr (record {
   marks = refl;
   more = more;
   one = one;
+  known = known;
   given = given;
   may = inl (refl, refl);
   appended = appends-nil held;
@@ -180,6 +181,7 @@ refusal_serves alone gave number held now h s old new close error want g given n
       marks = k.0;
       more = g ∷ [];
       one = omega arith;
+      known = (record { wanted = record { close = close; want = want }; is = is; words = inr words }, tt);
       given = given;
       may = inl (refl, refl);
       appended = k.1;
@@ -230,12 +232,21 @@ has_ops (Lookup c) g able words = tt
 pub gave_undrawn : {R : Type 0} (moment : ℕ) (draws : R → Result (List ℕ) Failed → R → Type 0) (r r2 : R) → r2 ≡ r → GaveOne moment draws r r2 (given_with moment [] true ∷ [])
 gave_undrawn moment draws r r2 same = (given_with moment [] true, refl, refl, same)
 
+-- nothing was drawn for a call, since memory ran out before
+pub known_undrawn : (t : Table) (r : Request) (close : Bool) (call : Call) (moment : ℕ) → r.close ≡ close → want_of t r ≡ Some (Called call) → AllByRecursion (IsGivenFor t r) (given_with moment [] true ∷ [])
+known_undrawn t r close call moment closes wants =
+    (record { wanted = record { close = close; want = Called call }; is = record { close = sym closes; want = wants }; words = inl (refl, refl) }, tt)
+
 module _ (alone : Type 0) (gave : List Given → Type 0) (number : ℕ) (held now : Option (List ℕ)) (h h2 : Histories Event) (s s2 : ℕ → Option ℕ) (old new : List Mark) (close : Bool) (call : Call) (g : Given) (given : gave (g ∷ [])) where
-  pub gives_up_unasked : g.drawn ≡ true → held ≡ now → NotMarked alone (answering None h s) (answering None h2 s2) old new (ask_for call g) → ServesWant alone gave number (answering held h s) (answering now h2 s2) old new close (Called call) (Err NoMemory)
-  gives_up_unasked drawn same not t r closes wants = inr (record {
+  all_drawn : g.drawn ≡ true → length g.words ≡ words_of_call call → AreWordsFor (Called call) g
+  all_drawn drawn words = subst (λ (b : Bool). AreSoMany b (words_of_call call) (length g.words)) (sym drawn) words
+
+  pub gives_up_unasked : g.drawn ≡ true → length g.words ≡ words_of_call call → held ≡ now → NotMarked alone (answering None h s) (answering None h2 s2) old new (ask_for call g) → ServesWant alone gave number (answering held h s) (answering now h2 s2) old new close (Called call) (Err NoMemory)
+  gives_up_unasked drawn words same not t r closes wants = inr (record {
     marks = not.marks;
     more = g ∷ [];
     one = omega arith;
+    known = (record { wanted = record { close = close; want = Called call }; is = record { close = sym closes; want = wants }; words = inr (all_drawn drawn words) }, tt);
     given = given;
     may = by_board not.may;
     appended = subst (λ (x : Option (List ℕ)). Appends held x []) same (appends-nil held);
@@ -249,6 +260,7 @@ module _ (alone : Type 0) (gave : List Given → Type 0) (number : ℕ) (held no
         is = record { close = sym closes; want = wants };
         given = g;
         last = refl;
+        words = all_drawn drawn words;
         ask = ask_for call g;
         the_ask = rw drawn refl;
         may = m;
@@ -259,7 +271,7 @@ module _ (alone : Type 0) (gave : List Given → Type 0) (number : ℕ) (held no
     told_text = text_of close (reply_from told.part told.form (told.answered).answer)
 
     told_words : AreWordsFor (Called call) g
-    told_words = subst (λ (b : Bool). AreSoMany b (words_of_call call) (length g.words)) (sym drawn) words
+    told_words = all_drawn drawn words
 
     told_asks : ◌≡◌ {A = List Asked} (asks_by (Called call) g) (ask_for call g ∷ [])
     told_asks = rw drawn refl

@@ -1,5 +1,6 @@
 -- How one request is served.
-use Rattle.std.specs.Prelude.{◌≡◌, ◌⊎◌, ℕ, ◌≤◌, List, [], ◌∷◌, ◌++◌, length, take, Option, None, Some, Result, Ok, Err}
+use Rattle.std.specs.Prelude.{◌≡◌, ◌⊎◌, ℕ, ◌≤◌, true, List, [], ◌∷◌, ◌++◌, length, take, Option, None, Some, Result, Ok, Err}
+use Rattle.std.specs.List.{AllByRecursion}
 use Rattle.std.specs.Io.KnownBytes.{Appends}
 use Rattle.zone_model.specs.declared.events.Event.{Event}
 use Rattle.zone_model.specs.Histories.{Histories}
@@ -10,6 +11,7 @@ use Rattle.http_front.specs.declared.request.Request.{Request}
 use Rattle.http_front.specs.Users.{Table}
 use Rattle.talk_model.specs.declared.marks.At.{At}
 use Rattle.talk_model.specs.declared.marks.Mark.{Mark}
+use Rattle.talk_model.specs.declared.wants.Want.{Want}
 use Rattle.talk_model.specs.declared.ends.TalkFaultKind.{TalkFaultKind}
 use Rattle.talk_model.specs.declared.ends.TalkFaultKind.TheVariants.{ReadFault, WriteFault, NoMemory}
 use Rattle.talk_model.specs.Requests.{Wanted, want_of}
@@ -59,12 +61,23 @@ pub record IsWanted (t : Table) (r : Request) (w : Wanted) : Type 0 where
 abbrev pub IsServed : Type 0 → (List Given → Type 0) → ℕ → Standing → Standing → List Mark → List Mark → Table → Request → List ℕ → Type 0
 IsServed alone gave number before after old new t r unsent = (w : Wanted) × IsWanted t r w × Replies alone gave number before after old new w unsent
 
--- An ask of the request was in hand.
+-- its words were drawn, or none of them yet
+abbrev pub MayBeWordsFor : Want → Given → Type 0
+MayBeWordsFor want g = ((g.words ≡ []) × (g.drawn ≡ true)) ⊎ AreWordsFor want g
+
+-- What was given for a request that has no mark.
+pub record IsGivenFor (t : Table) (r : Request) (g : Given) : Type 0 where
+  pub wanted : Wanted
+  pub is : IsWanted t r wanted
+  pub words : MayBeWordsFor wanted.want g
+
+-- An ask of the request was in hand, and its words were drawn.
 pub record WasAsking (alone : Type 0) (before after : Standing) (t : Table) (r : Request) (more : List Given) : Type 0 where
   pub wanted : Wanted
   pub is : IsWanted t r wanted
   pub given : Given
   pub last : more ≡ given ∷ []
+  pub words : AreWordsFor wanted.want given
   pub ask : Asked
   pub the_ask : asks_of wanted given ≡ ask ∷ []
   pub may : MayHaveAsked alone before.seats after.seats before.histories after.histories ask.lock ask.part
@@ -74,6 +87,7 @@ pub record GivesUp (alone : Type 0) (gave : List Given → Type 0) (before after
   pub marks : new ≡ old
   pub more : List Given
   pub one : length more ≤ 1
+  pub known : AllByRecursion (IsGivenFor t r) more
   pub given : gave more
   pub may : IsSameBoard before after ⊎ WasAsking alone before after t r more
   pub appended : Appends before.held after.held []

@@ -138,8 +138,8 @@ fn is_own_default(caller: &UserName, key: &ZoneKey) -> bool
     caller.as_bytes() == key.owner.as_bytes() && key.zone.as_bytes() == DEFAULT_ZONE
 }
 
-// Calls of the caller's default zone, and of those that modify creates of records that refer to
-// nothing.
+// Calls of the caller's default zone in the private database, and of those that modify creates of
+// records that stand alone.
 pub(crate) fn is_built(call: &Call) -> bool
     ensures { result ≡ is_built call.now }
 {

@@ -1,9 +1,10 @@
 // A conversation over one connection.
-ghost use Rattle.std.specs.Prelude.{◌≡◌, ◌≤◌, IfOk, IfErr};
+ghost use Rattle.std.specs.Prelude.{◌≡◌, ◌⊎◌, ◌≤◌, IfOk, IfErr};
 ghost use Rattle.ck_devices.specs.Causes.{Rose};
 ghost use Rattle.talk_model.specs.Given.{Draws, GaveFor};
 ghost use Rattle.talk_model.specs.declared.ends.TalkFaultKind.TheVariants as TalkFaultKind;
 ghost use Rattle.ck_server.specs.Outcomes.{EndsWell, BreaksOff};
+ghost use Rattle.ck_server.specs.Completeness.{IsComplete};
 
 use crate::sending::finish;
 use crate::serving::{Served, serve_request};
@@ -18,6 +19,10 @@ use zone_board::Board;
 /// asks to close, the bytes are none of a request, a request has a form that is not built, or as
 /// many were answered as a connection may have. Where the bytes can be no request, the last reply
 /// says so. A fault of the source or the sink, and want of memory, break the conversation off.
+///
+/// Where the source has whole requests to its end and neither device fails, they are answered, up to
+/// one that asks to close or whose form is not built and as many as a connection may have, unless
+/// memory runs out.
 ///
 /// For each request the clock is read once, and then a random word is drawn for each record that it
 /// creates without a name; a draw that fails refuses the request.
@@ -38,6 +43,10 @@ pub fn converse<B: Board, S: Source, W: Sink, C: Clock, R: Words>(
         (record { left = S.left source.old; held = W.held sink.old; histories = B.history board.old; seats = B.seats board.old })
         (record { left = S.left source.new; held = W.held sink.new; histories = B.history board.new; seats = B.seats board.new })
         fault.marks.items fault.at) }
+    ensures complete { IsComplete users.now
+        (record { left = S.left source.old; held = W.held sink.old; histories = B.history board.old; seats = B.seats board.old })
+        (record { left = S.left source.new; held = W.held sink.new; histories = B.history board.new; seats = B.seats board.new })
+        (Rose (S.fault_count source.old) (S.fault_count source.new) ⊎ Rose (W.fault_count sink.old) (W.fault_count sink.new)) result }
     ensures alone { B.alone board.old → B.alone board.new }
     ensures read_later { S.fault_count source.old ≤ S.fault_count source.new }
     ensures written_later { W.fault_count sink.old ≤ W.fault_count sink.new }

@@ -15,6 +15,8 @@ pub use talk_model::{At, End, Mark, Talk, TalkFault, TalkFaultKind};
 #[cfg(test)]
 mod end_tests;
 #[cfg(test)]
+mod order_tests;
+#[cfg(test)]
 mod test_talks;
 #[cfg(test)]
 mod tests;

@@ -74,12 +74,12 @@ fn outcome_entries(
     Ok(Items::from_vec(entries))
 }
 
-fn shown(alloc: Global, keys: &Option<RecordNames>, record: &Record) -> Result<Record, NoMemory>
-    ensures { IfOk result (λ copy. copy ≡ shown keys.now «record».now) }
+fn shown(alloc: Global, keys: &Option<RecordNames>, found: &Record) -> Result<Record, NoMemory>
+    ensures { IfOk result (λ copy. copy ≡ shown keys.now found.now) }
 {
     match keys {
-        Some(keys) => cut(alloc, record, keys.as_slice()),
-        None => copy_record(alloc, record),
+        Some(keys) => cut(alloc, found, keys.as_slice()),
+        None => copy_record(alloc, found),
     }
 }
 
@@ -87,11 +87,11 @@ fn lookup_entry(
     alloc: Global,
     keys: &Option<RecordNames>,
     name: &RecordName,
-    record: &Option<Record>,
+    found: &Option<Record>,
 ) -> Result<RecordEntry, NoMemory>
-    ensures { IfOk result (λ entry. entry ≡ found_entry keys.now (name.now, «record».now)) }
+    ensures { IfOk result (λ entry. entry ≡ found_entry keys.now (name.now, found.now)) }
 {
-    match record {
+    match found {
         Some(record) => Ok(RecordEntry::There(shown(alloc, keys, record)?)),
         None => Ok(RecordEntry::Failed {
             error: ServerError::NotFound,

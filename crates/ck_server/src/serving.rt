@@ -113,8 +113,8 @@ fn scope_of(database: Database) -> Scope
     ensures { result ≡ scope_of database }
 {
     match database {
-        Database::Private => Scope::Private,
-        Database::Shared | Database::Public => Scope::Shared,
+        Database::Private | Database::Public => Scope::Private,
+        Database::Shared => Scope::Shared,
     }
 }
 

@@ -8,7 +8,7 @@ use std::alloc::Global;
 use std::test::Fail;
 use zone_board::{Board, Solo};
 
-const TABLE: &[u8] = b"iCloud.test development api\nwa ann\nwb bob\nwc cat\nwd dan\n";
+pub(crate) const TABLE: &[u8] = b"iCloud.test development api\nwa ann\nwb bob\nwc cat\nwd dan\n";
 
 /// A request that creates a, whole.
 pub(crate) const REQUEST: &[u8] =
@@ -71,6 +71,8 @@ pub(crate) struct Talked {
     pub end: Result<End, TalkFaultKind>,
     pub marks: Vec<Mark>,
     pub written: Vec<u8>,
+    /// The first bytes that the source still had, 4,096 at most.
+    pub left: Vec<u8>,
     /// How many events lock 13 has, and whether another lock has any.
     pub events: u64,
     pub elsewhere: bool,
@@ -84,6 +86,18 @@ fn is_elsewhere(board: &Solo) -> bool {
         found = found || (lock != 13 && board.seen(lock) > 0);
     }
     found
+}
+
+// The next bytes of a source.
+fn rest_of(alloc: Global, source: &mut MemSource) -> Result<Vec<u8>, Fail> {
+    let mut rest = Vec::new(alloc);
+    let mut into = [0u8; 1];
+    for _ in 0..4096usize {
+        if let Ok(count) = source.read(&mut into) {
+            rest.extend_from_slice(&into[..count])?;
+        }
+    }
+    Ok(rest)
 }
 
 fn converse_on(
@@ -118,13 +132,15 @@ pub(crate) fn talk_in(
         Ok(talk) => (Ok(talk.end), talk.marks),
         Err(fault) => (Err(fault.at), fault.marks),
     };
+    let read_faults = source.faults();
     Ok(Talked {
         end,
         marks,
         written: sink.bytes().to_vec(alloc)?,
+        left: rest_of(alloc, &mut source)?,
         events: board.seen(13),
         elsewhere: is_elsewhere(&board),
-        read_faults: source.faults(),
+        read_faults,
         write_faults: sink.faults(),
     })
 }

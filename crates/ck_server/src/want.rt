@@ -4,7 +4,7 @@ ghost use Rattle.ck_base.specs.Told.{IsToldUnless};
 ghost use Rattle.http_front.specs.Routes.{route_of};
 ghost use Rattle.wire_calls.specs.Calls.{call_of};
 ghost use Rattle.wire_calls.specs.Meant.{IsMeantCall};
-ghost use Rattle.talk_model.specs.Requests.{caller_with, caller_at, caller_in, json_of, want_of_call, want_by, want_of};
+ghost use Rattle.talk_model.specs.Requests.{sender_with, sender_at, sender_in, json_of, want_of_call, want_by, want_of};
 ghost use Rattle.ck_server.specs.Askable.{MayBeServed};
 
 use crate::built::{is_built, is_built_route};
@@ -12,48 +12,48 @@ use ck_base::{NoMemory, Route};
 use error_replies::ServerError;
 use http_front::{CallerFault, Request, RouteFault, Users, caller_of, route_of};
 use std::alloc::Global;
-use talk_model::{Caller, Want};
+use talk_model::{Sender, Want};
 use wire_calls::{BadCall, Call, read_call};
 
-fn caller_with(
+fn sender_with(
     alloc: Global,
     users: &Users,
     route: Route,
     target: &[u8],
-) -> Result<Result<Caller, ServerError>, NoMemory>
-    ensures { IfOk result (λ found. found ≡ caller_at users.now target.now (Ok route)) }
+) -> Result<Result<Sender, ServerError>, NoMemory>
+    ensures { IfOk result (λ found. found ≡ sender_at users.now target.now (Ok route)) }
 {
     match caller_of(alloc, users, target) {
-        Ok(user) => Ok(Ok(Caller { route, user })),
+        Ok(user) => Ok(Ok(Sender { route, user })),
         Err(CallerFault::Failed) => Ok(Err(ServerError::AuthenticationFailed)),
         Err(CallerFault::Required) => Ok(Err(ServerError::AuthenticationRequired)),
         Err(CallerFault::NoMemory) => Err(NoMemory),
     }
 }
 
-// Who calls what, or the first refusal ahead of the body.
-fn find_caller(
+// Who asks for what, or the first refusal ahead of the body.
+fn find_sender(
     alloc: Global,
     users: &Users,
     request: &Request,
-) -> Result<Result<Caller, ServerError>, NoMemory>
-    ensures { IfOk result (λ found. found ≡ caller_in users.now request.now) }
+) -> Result<Result<Sender, ServerError>, NoMemory>
+    ensures { IfOk result (λ found. found ≡ sender_in users.now request.now) }
 {
     let target = request.target.as_slice();
     match route_of(alloc, request.method.as_slice(), target) {
-        Ok(route) => caller_with(alloc, users, route, target),
+        Ok(route) => sender_with(alloc, users, route, target),
         Err(RouteFault::NoRoute) => Ok(Err(ServerError::BadRequest)),
         Err(RouteFault::NoMemory) => Err(NoMemory),
     }
 }
 
 // The call that a body is, if it is one.
-fn call_in(alloc: Global, caller: &Caller, body: &[u8]) -> Result<Call, BadCall>
+fn call_in(alloc: Global, sender: &Sender, body: &[u8]) -> Result<Call, BadCall>
     ensures call { IsToldUnless BadCall.NoMemory result
-        (call_of caller.now.route caller.now.user (json_of body.now)) }
+        (call_of sender.now.route sender.now.user (json_of body.now)) }
     ensures meant { IfOk result IsMeantCall }
 {
-    read_call(alloc, &caller.route, &caller.user, body)
+    read_call(alloc, &sender.route, &sender.user, body)
 }
 
 // What is wanted by a call, or nothing where it is not built.
@@ -70,14 +70,14 @@ fn want_call(call: Call) -> Option<Want>
 }
 
 // What is wanted by a body, or nothing where its call is not built.
-fn read_body(alloc: Global, caller: &Caller, body: &[u8]) -> Result<Option<Want>, NoMemory>
-    ensures want { IfOk result (λ want. want ≡ want_by (Ok caller.now) (json_of body.now)) }
+fn read_body(alloc: Global, sender: &Sender, body: &[u8]) -> Result<Option<Want>, NoMemory>
+    ensures want { IfOk result (λ want. want ≡ want_by (Ok sender.now) (json_of body.now)) }
     ensures askable { IfOk result MayBeServed }
 {
-    if !is_built_route(caller.route) {
+    if !is_built_route(sender.route) {
         return Ok(None);
     }
-    match call_in(alloc, caller, body) {
+    match call_in(alloc, sender, body) {
         Ok(call) => Ok(want_call(call)),
         Err(BadCall::NoMemory) => Err(NoMemory),
         Err(BadCall::NotBuilt) => Ok(None),
@@ -94,8 +94,8 @@ pub(crate) fn read_want(
     ensures want { IfOk result (λ want. want ≡ want_of users.now request.now) }
     ensures askable { IfOk result MayBeServed }
 {
-    match find_caller(alloc, users, request)? {
-        Ok(caller) => read_body(alloc, &caller, request.body.as_slice()),
+    match find_sender(alloc, users, request)? {
+        Ok(sender) => read_body(alloc, &sender, request.body.as_slice()),
         Err(error) => Ok(Some(Want::Refused(error))),
     }
 }

@@ -120,7 +120,7 @@ inside bytes more front rest reached lines parts = by_order (cases_lt (length by
     by_order (inr le) = le
 
 -- so they stand at the front of the bytes alone
-front-parts : (bytes more front rest : List ℕ) → bytes ++ more ≡ front ++ rest → length front ≤ length bytes → bytes ≡ front ++ take (length bytes - length front) rest
+pub front-parts : (bytes more front rest : List ℕ) → bytes ++ more ≡ front ++ rest → length front ≤ length bytes → bytes ≡ front ++ take (length bytes - length front) rest
 front-parts bytes more front rest parts le =
     sym (take-append_seam bytes more) ∙ (ap (take (length bytes)) parts ∙ take-behind front rest (length bytes) le)
 

@@ -6,7 +6,7 @@ use Rattle.std.proofs.Math.Seq.{take-append-add, take-append_seam}
 use Rattle.std.specs.Prelude.{OnErr}
 use Rattle.std.specs.Io.KnownBytes.{Appends}
 use Rattle.ck_devices.proofs.Streams.{appends-nil, appends_on}
-use Rattle.http_front.specs.Replies.{WritesFront}
+use Rattle.ck_devices.specs.Fronts.{WritesFront}
 
 pub on_err : {T E : Type 0} (P : Type 0) (r : Result T E) → P → OnErr r P
 on_err P (Ok t) p = tt

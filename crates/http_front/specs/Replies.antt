@@ -1,6 +1,5 @@
 -- The bytes of a reply: the response of RFC 9112, section 4, with the statuses and phrases of RFC 9110, section 15.
-use Rattle.std.specs.Prelude.{◌≡◌, ℕ, ◌⊎◌, Bool, ◌==◌, List, [], ◌++◌, length, take, codes, decimal, IsTrue, Option, if◌then◌else◌}
-use Rattle.std.specs.Io.KnownBytes.{Appends}
+use Rattle.std.specs.Prelude.{◌≡◌, ℕ, ◌⊎◌, Bool, ◌==◌, List, [], ◌++◌, length, codes, decimal, IsTrue, if◌then◌else◌}
 use Rattle.error_replies.specs.Errors.{is_error_status}
 
 -- a status that a reply has: all went well, or it is that of an error
@@ -37,8 +36,3 @@ reply_head status size close =
 -- the whole reply
 abbrev pub reply_text : ℕ → List ℕ → Bool → List ℕ
 reply_text status body close = reply_head status (length body) close ++ body
-
--- A front of the text was written.
-pub record WritesFront (old new : Option (List ℕ)) (text : List ℕ) : Type 0 where
-  pub count : ℕ
-  pub wrote : Appends old new (take count text)

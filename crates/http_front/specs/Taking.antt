@@ -1,5 +1,5 @@
 -- How a head is read on, and how a request is taken off.
-use Rattle.std.specs.Prelude.{◌≡◌, ℕ, ◌<◌, ◌≤◌, Bool, true, false, List, [], ◌++◌, length, Option, Result, Ok, Err, ⊤}
+use Rattle.std.specs.Prelude.{◌≡◌, ℕ, ◌<◌, List, [], ◌++◌, length, Option, Result, Ok, Err, ⊤}
 use Rattle.std.specs.Io.KnownBytes.{IsAtEnd}
 use Rattle.http_front.specs.declared.faults.FrontFault.{FrontFault}
 use Rattle.http_front.specs.declared.faults.FrontFault.TheVariants.{Ended, Cut, BadHead, HeadTooLong, NoLength, BodyTooLong, ReadFault, NoMemory}
@@ -16,11 +16,6 @@ StopsHead NoLength left bytes = ⊥
 StopsHead BodyTooLong left bytes = ⊥
 StopsHead ReadFault left bytes = ⊤
 StopsHead NoMemory left bytes = ⊤
-
--- the buffer holds so many bytes, or the source has ended before
-abbrev pub IsLongEnough : Option (List ℕ) → List ℕ → ℕ → Bool → Type 0
-IsLongEnough left buffer wanted true = wanted ≤ length buffer
-IsLongEnough left buffer wanted false = (length buffer < wanted) × IsAtEnd left
 
 -- The front of the bytes is the request, and the rest is left.
 pub record TakesFront (old new : List ℕ) (r : Request) : Type 0 where

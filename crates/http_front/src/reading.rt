@@ -1,9 +1,9 @@
 // Whole requests from a source.
 ghost use Rattle.std.specs.Prelude.{◌≡◌, ◌≤◌, ◌+◌, ◌<◌, length, Ok, IfOk, OnOk, IfErr, OnErr, IsErrOf};
 ghost use Rattle.ck_devices.specs.Causes.{Rose};
-ghost use Rattle.http_front.specs.Reading.{Extends, TakesRequest, IsFault, IsReadError};
+ghost use Rattle.http_front.specs.Reading.{most_piece, Extends, ReadsOn, TakesRequest, IsFault};
 ghost use Rattle.http_front.specs.Scans.{IsFound};
-ghost use Rattle.http_front.specs.Taking.{StopsHead, IsLongEnough, TakesBehind};
+ghost use Rattle.http_front.specs.Taking.{StopsHead, TakesBehind};
 
 use crate::head::HeadRead;
 use crate::look::{Look, look_on};
@@ -17,6 +17,7 @@ use std::alloc::Global;
 fn fill_head<S: Source>(source: &mut S, buffer: &mut Buffer) -> Result<(), FrontFault>
     ensures extends { Extends (S.left source.old) (S.left source.new) buffer.old buffer.new }
     ensures grown { OnOk result (length buffer.old < length buffer.new) }
+    ensures piece { OnOk result (length buffer.new ≤ length buffer.old + most_piece) }
     ensures same { OnErr result (buffer.new ≡ buffer.old) }
     ensures stops { IfErr result (λ fault. StopsHead fault (S.left source.new) buffer.new) }
     ensures later { S.fault_count source.old ≤ S.fault_count source.new }
@@ -32,9 +33,9 @@ fn fill_head<S: Source>(source: &mut S, buffer: &mut Buffer) -> Result<(), Front
 }
 
 // Reads until a head stands at the front.
-#[tactic(auto, using(crate::proofs::ReadingLemmas::extends_on))]
+#[tactic(auto, using(crate::proofs::ReadingLemmas::reads_on))]
 fn read_head<S: Source>(source: &mut S, buffer: &mut Buffer) -> Result<HeadRead, FrontFault>
-    ensures extends { Extends (S.left source.old) (S.left source.new) buffer.old buffer.new }
+    ensures reads { ReadsOn (S.left source.old) (S.left source.new) buffer.old buffer.new }
     ensures head { IfOk result (λ head. IsFound buffer.new head) }
     ensures fault { IfErr result (λ fault. IsFault fault (S.left source.new) buffer.new) }
     ensures later { S.fault_count source.old ≤ S.fault_count source.new }
@@ -48,28 +49,6 @@ fn read_head<S: Source>(source: &mut S, buffer: &mut Buffer) -> Result<HeadRead,
         }
         fill_head(source, buffer)?;
     }
-}
-
-// Reads until the buffer holds so many bytes, or the source ends.
-#[tactic(auto, using(crate::proofs::ReadingLemmas::extends_on))]
-fn read_to_length<S: Source>(
-    source: &mut S,
-    buffer: &mut Buffer,
-    wanted: usize,
-) -> Result<bool, FrontFault>
-    ensures extends { Extends (S.left source.old) (S.left source.new) buffer.old buffer.new }
-    ensures whole { IfOk result (λ whole. IsLongEnough (S.left source.new) buffer.new wanted whole) }
-    ensures short { IfErr result (λ _. length buffer.new < wanted) }
-    ensures later { S.fault_count source.old ≤ S.fault_count source.new }
-    ensures cause { IsErrOf result FrontFault.ReadFault → Rose (S.fault_count source.old) (S.fault_count source.new) }
-    ensures read { IfErr result IsReadError }
-{
-    while buffer.as_slice().len() < wanted {
-        if buffer.fill(source)? == 0 {
-            return Ok(false);
-        }
-    }
-    Ok(true)
 }
 
 // Takes the request whose head was read, and whose body has come.
@@ -97,7 +76,7 @@ fn take_request(
     })
 }
 
-// Reads the body behind a head that was read.
+// Reads until the buffer holds the body behind a head that was read.
 fn read_body<S: Source>(
     source: &mut S,
     buffer: &mut Buffer,
@@ -106,27 +85,28 @@ fn read_body<S: Source>(
 ) -> Result<(), FrontFault>
     requires found { IsFound buffer.old head }
     requires stated { head.length ≡ Ok size }
-    ensures extends { Extends (S.left source.old) (S.left source.new) buffer.old buffer.new }
+    ensures reads { ReadsOn (S.left source.old) (S.left source.new) buffer.old buffer.new }
     ensures found { IsFound buffer.new head }
     ensures whole { OnOk result (head.len + size ≤ length buffer.new) }
     ensures fault { IfErr result (λ fault. IsFault fault (S.left source.new) buffer.new) }
     ensures later { S.fault_count source.old ≤ S.fault_count source.new }
     ensures cause { IsErrOf result FrontFault.ReadFault → Rose (S.fault_count source.old) (S.fault_count source.new) }
 {
-    if read_to_length(source, buffer, head.len + size)? {
-        Ok(())
-    } else {
-        Err(FrontFault::Cut)
+    while buffer.as_slice().len() < head.len + size {
+        if buffer.fill(source)? == 0 {
+            return Err(FrontFault::Cut);
+        }
     }
+    Ok(())
 }
 
 // Reads until a whole request stands at the front, and says how long its body is.
-#[tactic(auto, using(crate::proofs::ReadingLemmas::extends_on))]
+#[tactic(auto, using(crate::proofs::ReadingLemmas::reads_on))]
 fn read_whole<S: Source>(
     source: &mut S,
     buffer: &mut Buffer,
 ) -> Result<(HeadRead, usize), FrontFault>
-    ensures extends { Extends (S.left source.old) (S.left source.new) buffer.old buffer.new }
+    ensures reads { ReadsOn (S.left source.old) (S.left source.new) buffer.old buffer.new }
     ensures whole { IfOk result (λ whole. IsFound buffer.new whole.0 × (whole.0.length ≡ Ok whole.1) × (whole.0.len + whole.1 ≤ length buffer.new)) }
     ensures fault { IfErr result (λ fault. IsFault fault (S.left source.new) buffer.new) }
     ensures later { S.fault_count source.old ≤ S.fault_count source.new }
@@ -139,7 +119,8 @@ fn read_whole<S: Source>(
 }
 
 /// Takes the next whole request, as RFC 9112, section 6.3 finds the end of its body. The buffer
-/// keeps what was read beyond it. After a fault the buffer holds what it held before, and then all
+/// keeps what was read beyond it. Nothing is read where a whole request is there already, and at most
+/// the rest of one piece is read behind its end. After a fault the buffer holds what it held before, and then all
 /// that was read.
 #[tactic(auto, using(crate::proofs::ReadingLemmas::takes_behind))]
 pub fn read_request<S: Source>(
@@ -148,7 +129,7 @@ pub fn read_request<S: Source>(
     buffer: &mut Buffer,
 ) -> Result<Request, FrontFault>
     ensures request { IfOk result (λ r. TakesRequest (S.left source.old) (S.left source.new) buffer.old buffer.new r) }
-    ensures kept { OnErr result (Extends (S.left source.old) (S.left source.new) buffer.old buffer.new) }
+    ensures kept { OnErr result (ReadsOn (S.left source.old) (S.left source.new) buffer.old buffer.new) }
     ensures fault { IfErr result (λ fault. IsFault fault (S.left source.new) buffer.new) }
     ensures later { S.fault_count source.old ≤ S.fault_count source.new }
     ensures cause { IsErrOf result FrontFault.ReadFault → Rose (S.fault_count source.old) (S.fault_count source.new) }

@@ -1,11 +1,12 @@
 // Replies to a sink.
 ghost use Rattle.std.specs.Prelude.{◌≡◌, ◌≤◌, ◌++◌, string_bytes, length, IfOk, OnOk, OnErr, IsErrOf};
 ghost use Rattle.std.specs.Io.KnownBytes.{Appends};
-ghost use Rattle.ck_devices.specs.Causes.{Rose, HasCause};
-ghost use Rattle.http_front.specs.Replies.{IsStatus, phrase_of, status_line, last_lines, reply_head, reply_text, WritesFront};
+ghost use Rattle.ck_devices.specs.Causes.{Rose};
+ghost use Rattle.ck_devices.specs.Fronts.{WritesFront};
+ghost use Rattle.http_front.specs.Replies.{IsStatus, phrase_of, status_line, last_lines, reply_head, reply_text};
 
 use ck_base::NoMemory;
-use ck_devices::{Failed, Sink};
+use ck_devices::{Failed, Sink, write_whole};
 use std::alloc::Global;
 
 /// Why a reply was not written.
@@ -37,19 +38,6 @@ impl From<NoMemory> for WriteFault {
     fn from(_e: NoMemory) -> Self {
         WriteFault::NoMemory
     }
-}
-
-// Writes all of the bytes. After a fault a front of them was written.
-fn write_whole<W: Sink>(sink: &mut W, bytes: &[u8]) -> Result<(), Failed>
-    ensures ok { OnOk result (Appends (W.held sink.old) (W.held sink.new) bytes.now) }
-    ensures err { OnErr result (WritesFront (W.held sink.old) (W.held sink.new) bytes.now) }
-    ensures cause { HasCause (W.fault_count sink.old) (W.fault_count sink.new) result }
-{
-    let mut done = 0;
-    while done < bytes.len() {
-        done += sink.write(&bytes[done..])?;
-    }
-    Ok(())
 }
 
 fn phrase_of(status: u16) -> &'static str

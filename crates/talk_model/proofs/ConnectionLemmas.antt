@@ -204,7 +204,7 @@ module _ (t : Table) where
     leaves = stays a.rest a.leaves;
   }
 
-  unbuilt_more : (bytes after : List ℕ) → IsUnbuilt t bytes → IsUnbuilt t (bytes ++ after)
+  pub unbuilt_more : (bytes after : List ℕ) → IsUnbuilt t bytes → IsUnbuilt t (bytes ++ after)
   unbuilt_more bytes after u = record { request = u.request; has = stay_said bytes after (Ok u.request) u.has; want = u.want }
 
   pub close_asked_more : (bytes after : List ℕ) (ws : List Wanted) → AreRequests t bytes ws CloseAsked → AreRequests t (bytes ++ after) ws CloseAsked

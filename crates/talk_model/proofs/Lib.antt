@@ -1,5 +1,7 @@
 -- the requests and the end are determined by the bytes
 pub mod ConnectionLemmas
+-- bytes that are whole requests to their end
+pub mod WholeLemmas
 -- what stays as it is while histories grow
 pub mod GrowthLemmas
 -- one more mark at the end

@@ -46,11 +46,11 @@ pub record Asked : Type 0 where
 abbrev pub lock_of_zone : ZoneKey → ℕ
 lock_of_zone key = lock_of_names key.owner key.zone
 
--- the scope of a database; the public one has calls on share links alone
+-- the scope of a database; the public one has calls on share links alone, whose answers do not depend on it
 abbrev pub scope_of : Database → Scope
 scope_of Private = scope.Private
 scope_of Shared = scope.Shared
-scope_of Public = scope.Shared
+scope_of Public = scope.Private
 
 -- what a call asks
 abbrev pub part_of : Call → Given → Part

@@ -1,9 +1,12 @@
 -- The bytes of a connection say what is wanted of it, and how it ends.
-use Rattle.std.specs.Prelude.{◌≡◌, ℕ, List, ◌++◌}
+use Rattle.std.specs.Prelude.{◌≡◌, ℕ, true, is_some, List, [], ◌++◌, take}
+use Rattle.std.specs.List.{list_all}
 use Rattle.talk_model.specs.declared.ends.End.{End}
+use Rattle.http_front.specs.declared.request.Request.{Request}
 use Rattle.http_front.specs.Users.{Table}
-use Rattle.talk_model.specs.Requests.{Wanted}
-use Rattle.talk_model.specs.Connections.{AreRequests}
+use Rattle.talk_model.specs.Requests.{Wanted, want_of}
+use Rattle.talk_model.specs.Connections.{most_requests, AreRequests, last_text}
+use Rattle.talk_model.specs.WholeConnections.{AreWhole, answered, end_behind, IsGoodEnd}
 
 -- the same bytes have no two readings
 abbrev pub HaveOneReading : Type 0
@@ -12,3 +15,10 @@ HaveOneReading = (t : Table) (bytes : List ℕ) (v w : List Wanted) (e f : End) 
 -- more bytes leave a reading that this end closes
 abbrev pub StaysRead : End → Type 0
 StaysRead end = (t : Table) (bytes more : List ℕ) (w : List Wanted) → AreRequests t bytes w end → AreRequests t (bytes ++ more) w end
+
+-- Where the bytes are whole requests to their end, these are read, up to the end that they have; nothing is written last there; and it is
+-- a good end where the forms of all that a connection may have are built.
+pub record WholeOnesEnd : Type 0 where
+  pub reading : (t : Table) (bytes : List ℕ) (rs : List Request) → AreWhole bytes rs → AreRequests t bytes (answered t rs) (end_behind t rs)
+  pub nothing_last : (t : Table) (rs : List Request) → last_text (end_behind t rs) ≡ []
+  pub good : (t : Table) (rs : List Request) → list_all (λ (r : Request). is_some (want_of t r)) (take most_requests rs) ≡ true → IsGoodEnd (end_behind t rs)

@@ -6,6 +6,8 @@ pub mod Given
 pub mod Calls
 -- the requests at the front of the bytes of a connection, and its end
 pub mod Connections
+-- connections whose bytes are whole requests to their end
+pub mod WholeConnections
 -- what the bytes of a connection determine
 pub mod ConnectionLaws
 -- when marks fit requests and histories

@@ -19,7 +19,7 @@ use Rattle.wire_calls.specs.declared.call.Call.TheVariants.{Modify, Lookup}
 use Rattle.wire_calls.specs.declared.fault.BadCall.{BadCall}
 use Rattle.wire_calls.specs.declared.fault.BadCall.TheVariants.{NotBuilt}
 use Rattle.wire_calls.specs.Calls.{call_of}
-use Rattle.talk_model.specs.declared.wants.Caller.{Caller}
+use Rattle.talk_model.specs.declared.wants.Sender.{Sender}
 use Rattle.talk_model.specs.declared.wants.Want.{Want}
 use Rattle.talk_model.specs.declared.wants.Want.TheVariants.{Refused, Called}
 use Rattle.http_front.specs.declared.request.Request.{Request}
@@ -45,17 +45,17 @@ error_of_caller Failed = AuthenticationFailed
 error_of_caller Required = AuthenticationRequired
 error_of_caller NoMemory = AuthenticationFailed
 
-abbrev pub caller_with : Route → Result (List ℕ) CallerFault → Result Caller ServerError
-caller_with route (Ok user) = Ok (record { route = route; user = user })
-caller_with route (Err fault) = Err (error_of_caller fault)
+abbrev pub sender_with : Route → Result (List ℕ) CallerFault → Result Sender ServerError
+sender_with route (Ok user) = Ok (record { route = route; user = user })
+sender_with route (Err fault) = Err (error_of_caller fault)
 
-abbrev pub caller_at : Table → List ℕ → Result Route RouteFault → Result Caller ServerError
-caller_at t target (Err fault) = Err BadRequest
-caller_at t target (Ok route) = caller_with route (caller_of t target)
+abbrev pub sender_at : Table → List ℕ → Result Route RouteFault → Result Sender ServerError
+sender_at t target (Err fault) = Err BadRequest
+sender_at t target (Ok route) = sender_with route (caller_of t target)
 
 -- the route comes before the tokens
-abbrev pub caller_in : Table → Request → Result Caller ServerError
-caller_in t r = caller_at t r.target (route_of r.method r.target)
+abbrev pub sender_in : Table → Request → Result Sender ServerError
+sender_in t r = sender_at t r.target (route_of r.method r.target)
 
 -- ---- what is built
 
@@ -92,13 +92,13 @@ want_of_call (Err NotBuilt) = None
 want_of_call (Err fault) = Some (Refused BadRequest)
 want_of_call (Ok call) = if is_built call then Some (Called call) else None
 
-abbrev pub want_by : Result Caller ServerError → Option Data → Option Want
+abbrev pub want_by : Result Sender ServerError → Option Data → Option Want
 want_by (Err error) json = Some (Refused error)
 want_by (Ok caller) json = if is_built_route caller.route then want_of_call (call_of caller.route caller.user json) else None
 
 -- what is wanted of a request, or nothing where its form is not built
 abbrev pub want_of : Table → Request → Option Want
-want_of t r = want_by (caller_in t r) (json_of r.body)
+want_of t r = want_by (sender_in t r) (json_of r.body)
 
 -- The bytes are a whole request, of which this is wanted.
 pub record Wants (t : Table) (bytes : List ℕ) (w : Wanted) : Type 0 where

@@ -1,6 +1,6 @@
-// What holds of the bytes of a connection. The function does nothing: its clauses are the laws.
+// What holds of the bytes of a connection. The functions do nothing: their clauses are the laws.
 ghost use Rattle.talk_model.specs.declared.ends.End.TheVariants.{CloseAsked, BadHead, HeadTooLong, NoLength, BodyTooLong, Spent, NotBuilt};
-ghost use Rattle.talk_model.specs.ConnectionLaws.{HaveOneReading, StaysRead};
+ghost use Rattle.talk_model.specs.ConnectionLaws.{HaveOneReading, StaysRead, WholeOnesEnd};
 
 /// The bytes of a connection determine the requests at their front and its end, and bytes that come
 /// behind an end that leaves bytes unread change neither.
@@ -13,4 +13,10 @@ pub fn bytes_have_one_reading()
     ensures body_too_long { StaysRead BodyTooLong }
     ensures spent { StaysRead Spent }
     ensures not_built { StaysRead NotBuilt }
+{}
+
+/// A connection whose bytes are whole requests to their end has these answered, up to the first that
+/// asks to close and at most as many as it may have, and ends well if their forms are built.
+pub fn whole_connections_end_well()
+    ensures { WholeOnesEnd }
 {}

@@ -8,6 +8,6 @@ mod marks;
 mod wants;
 
 pub use ends::{End, Talk, TalkFault, TalkFaultKind};
-pub use laws::bytes_have_one_reading;
+pub use laws::{bytes_have_one_reading, whole_connections_end_well};
 pub use marks::{At, Mark};
-pub use wants::{Caller, Want};
+pub use wants::{Sender, Want};

@@ -5,7 +5,7 @@ use wire_calls::Call;
 
 /// Who makes a request, and of which route.
 #[derive(Debug, Drop)]
-pub struct Caller {
+pub struct Sender {
     pub route: Route,
     pub user: UserName,
 }

@@ -1,6 +1,6 @@
 -- What an ask on the own default zone comes to.
 use Rattle.std.proofs.Common.{◌≡◌, ℕ, List, [], ◌∷◌, ◌++◌, length, Bool, true, false, not, ◌&&◌, refl, sym, ap, ◌∙◌, subst, map, Option, ◌≤◌, arith}
-use Rattle.std.specs.Prelude.{if◌then◌else◌}
+use Rattle.std.specs.Prelude.{◌||◌, if◌then◌else◌}
 use Rattle.std.specs.List.{list_all, AllByRecursion}
 use Rattle.ck_base.specs.Names.{lock_of_names}
 use Rattle.ck_base.specs.declared.key.ZoneKey.{ZoneKey}
@@ -18,7 +18,7 @@ use Rattle.zone_model.specs.Zones.{zone_at}
 use Rattle.zone_model.specs.Views.{view_of}
 use Rattle.zone_model.specs.Events.{log_of}
 use Rattle.zone_model.specs.Requests.{Caller}
-use Rattle.zone_model.specs.Modifying.{modified_as_one, modified_apart, commits_of_request}
+use Rattle.zone_model.specs.Modifying.{is_judged_as_one, modified_as_one, modified_apart, commits_of_request}
 use Rattle.zone_model.specs.PlainCreates.{IsOwner, is_plain_create}
 use Rattle.zone_model.specs.OnePuts.{IsOnePut, last_put}
 use Rattle.zone_model.proofs.LegalLaws.{histories_legal}
@@ -84,8 +84,8 @@ module _ (events : List Event) (user : List ℕ) (key : ZoneKey) (by_owner : use
         let guids = guids_at key ops words in
         let before : OpSight = op_sight its_caller moment (log_of events) its_ops in
         let each : List OpSight = sights_of its_caller moment (log_of events) its_ops guids in
-        ap (λ (v : View). if v.here then ModifyAnswer (outcomes_by its_caller moment atomic before each its_ops guids) else NoZone) viewed
-        ∙ ap (λ b. ModifyAnswer (if b then outcomes_as_one its_caller moment before its_ops guids else outcomes_apart its_caller moment each its_ops guids)) (one_off atomic)
+        ap (λ (v : View). if v.here then ModifyAnswer (outcomes_by its_caller moment atomic before (if not v.here || is_judged_as_one key atomic then [] else each) its_ops guids) else NoZone) viewed
+        ∙ ap (λ b. ModifyAnswer (if b then outcomes_as_one its_caller moment before its_ops guids else outcomes_apart its_caller moment (if b then [] else each) its_ops guids)) (one_off atomic)
         ∙ ap (λ gs. ModifyAnswer (outcomes_apart its_caller moment (sights_of its_caller moment (log_of events) its_ops gs) its_ops gs)) none_drawn
         ∙ ap ModifyAnswer (seen_apart its_caller owns moment default its_ops (log_of events) [] (plain_named ops words plain) ones)
 

@@ -1,18 +1,18 @@
 -- Entries after one view more, and after equal views.
-use Rattle.std.proofs.Common.{◌≡◌, ℕ, List, [], ◌∷◌, ◌++◌, Bool, true, cond, not, refl, sym, ap, ◌∙◌, append-nil, append_assoc, map}
+use Rattle.std.proofs.Common.{◌≡◌, ℕ, List, [], ◌∷◌, ◌++◌, Bool, true, false, cond, not, ◌&&◌, refl, sym, ap, subst, ◌∙◌, append-nil, append_assoc, map}
 use Rattle.std.specs.Prelude.{filter, if◌then◌else◌}
 use Rattle.ck_base.specs.declared.key.ZoneKey.{ZoneKey}
 use Rattle.ck_base.specs.declared.scope.Scope.{Scope}
 use Rattle.ck_records.specs.declared.view.View.{View}
 use Rattle.zone_model.specs.declared.commits.Commit.{Commit}
-use Rattle.zone_model.specs.Names.{names_of_both}
+use Rattle.zone_model.specs.Names.{names_of_both, is_default}
 use Rattle.zone_model.specs.Records.{record_at, names_in}
-use Rattle.zone_model.specs.Same.{same_found}
+use Rattle.zone_model.specs.Same.{same_found, same_view}
 use Rattle.zone_model.specs.Views.{view_of, views_at_fronts, fronts, last_view}
 use Rattle.zone_model.specs.Entries.{entries, changed}
-use Rattle.zone_model.specs.ZoneEntries.{is_noticed, zone_entries_after}
+use Rattle.zone_model.specs.ZoneEntries.{is_noticed, zone_entries_after, zone_entries}
 use Rattle.zone_model.specs.Laws.{EqualViewsGiveNone, ZoneEntriesGrow}
-use Rattle.zone_model.proofs.SameLaws.{found-refl}
+use Rattle.zone_model.proofs.SameLaws.{found-refl, view-refl}
 use Rattle.zone_model.proofs.LogLaws.{views-snoc}
 
 -- one view more adds the names that it changes
@@ -83,5 +83,18 @@ feed_on u scope before (d ∷ log) c =
     ∙ ap (λ done. one ++ (zone_entries_after u scope (before ++ d ∷ []) log ++ (if is_noticed u scope done c then c.key ∷ [] else []))) (append_assoc before (d ∷ []) log)
     ∙ sym (append_assoc one (zone_entries_after u scope (before ++ d ∷ []) log) (if is_noticed u scope (before ++ d ∷ log) c then c.key ∷ [] else []))
 
+-- where the view stays as it was nothing is noticed
+unnoticed : (a b : Bool) → b ≡ true → (a && not b) ≡ false
+unnoticed true b same = ap not same
+unnoticed false b same = refl
+
 pub zone_entries_grow : ZoneEntriesGrow
-zone_entries_grow log c u scope = feed_on u scope [] log c
+zone_entries_grow = record {
+  more = λ log c u scope. feed_on u scope [] log c;
+  unseen = λ log c u scope same.
+      let before = view_of log u scope c.key in
+      let alike : same_view before (view_of (log ++ c ∷ []) u scope c.key) ≡ true = subst (λ v. same_view before v ≡ true) same (view-refl before) in
+      feed_on u scope [] log c
+      ∙ ap (λ b. zone_entries log u scope ++ (if b then c.key ∷ [] else [])) (unnoticed (not (is_default c.key)) _ alike)
+      ∙ append-nil (zone_entries log u scope);
+}

@@ -30,7 +30,7 @@ use Rattle.zone_model.proofs.WorkingLaws.{put_at}
 some_none : {f : OpFault} → Some f ≡ None → ⊥
 some_none e = both_ways true (ap (λ (p : Option OpFault). option_map_or (λ _. true) p false) e) refl
 
-six_pass : (a b c d e f : Bool) → first_fault ((a, Exists) ∷ (b, NotFound) ∷ (c, Conflict) ∷ (d, BadRequest) ∷ (e, AccessDenied) ∷ (f, Validating) ∷ []) ≡ None
+pub six_pass : (a b c d e f : Bool) → first_fault ((a, Exists) ∷ (b, NotFound) ∷ (c, Conflict) ∷ (d, BadRequest) ∷ (e, AccessDenied) ∷ (f, Validating) ∷ []) ≡ None
     → (a ≡ false) × (b ≡ false) × (c ≡ false) × (d ≡ false) × (e ≡ false) × (f ≡ false)
 six_pass true b c d e f h = absurd (some_none h)
 six_pass false true c d e f h = absurd (some_none h)

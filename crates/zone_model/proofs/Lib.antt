@@ -3,6 +3,8 @@ pub mod RowWords
 -- the rules at worked examples
 pub mod Rows
 pub mod ReferenceRows
+pub mod CheckRows
+pub mod FeedRows
 -- names, their order and lists of them
 pub mod NameLaws
 -- records that compare alike
@@ -17,6 +19,8 @@ pub mod LogLaws
 pub mod OrderLaws
 -- change entries after one view more
 pub mod EntryLaws
+-- pages of the feed of zones
+pub mod FeedLaws
 -- records looked up by name
 pub mod RecordLaws
 -- what a request commits
@@ -45,6 +49,8 @@ pub mod RootLaws
 pub mod SizeLaws
 -- what a request commits is lawful
 pub mod LawfulLaws
+-- what a page lists, of names or of zones
+pub mod ChoiceLaws
 -- copies with a page's items
 pub mod PageLaws
 -- copies stay in step as the log grows
@@ -65,3 +71,7 @@ pub mod LegalLaws
 pub mod FormLaws
 -- what a request commits has its form
 pub mod StoredLaws
+-- refusals that show a record
+pub mod ConflictLaws
+-- what the shared scope permits
+pub mod SharedLaws

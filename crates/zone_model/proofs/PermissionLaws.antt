@@ -1,6 +1,6 @@
 -- What a participant may write shows in what they see.
-use Rattle.std.proofs.Common.{◌≡◌, ℕ, List, [], ◌∷◌, Bool, true, false, cond, ◌&&◌, ◌||◌, refl, sym, ap, ◌∙◌, subst, Some, None, Option, ⊎_elim}
-use Rattle.std.specs.Prelude.{filter, find, nat_le, if◌then◌else◌}
+use Rattle.std.proofs.Common.{◌≡◌, ℕ, List, [], ◌∷◌, Bool, true, false, cond, ◌&&◌, ◌||◌, refl, sym, ap, ◌∙◌, subst, Some, None, Option, inl, inr, ⊎_elim}
+use Rattle.std.specs.Prelude.{◌⊎◌, filter, find, nat_le, if◌then◌else◌}
 use Rattle.std.specs.List.{list_any, list_all}
 use Rattle.std.proofs.lemmas.Bool.{both_ways, and_parts, and_from, or_left, or_right, or_cases, cond-true}
 use Rattle.std.proofs.lemmas.Option.{same_Some}
@@ -12,16 +12,16 @@ use Rattle.share_records.specs.declared.permission.Permission.TheVariants.{Nothi
 use Rattle.share_records.specs.declared.share.Share.{Share as ShareOf}
 use Rattle.ck_records.specs.declared.records.Record.{Record}
 use Rattle.zone_model.specs.declared.commits.Commit.{Commit}
-use Rattle.zone_model.specs.Names.{same}
+use Rattle.zone_model.specs.Names.{same, is_default}
 use Rattle.zone_model.specs.Options.{is_some_and}
 use Rattle.zone_model.specs.Records.{record_at, names_in, share_of, IsAscending}
 use Rattle.zone_model.specs.Same.{rank}
 use Rattle.zone_model.specs.Zones.{zone_at}
 use Rattle.zone_model.specs.Ancestry.{IsAncestor, here, up, ancestors, is_ancestor}
 use Rattle.zone_model.specs.Coverage.{permission_in, gives, has_accepted, reaches, covers, may_write}
-use Rattle.zone_model.specs.Views.{nowhere, is_visible, participant_view, view_of}
+use Rattle.zone_model.specs.Views.{nowhere, is_visible, owner_view, participant_view, view_of}
 use Rattle.zone_model.specs.Grounds.{grounds_of, is_seen}
-use Rattle.zone_model.specs.Laws.{IsParticipantsZone, PermissionsAreSeen}
+use Rattle.zone_model.specs.Laws.{IsParticipantsZone, PermissionsAreSeen, IsCoveredBy, NothingElseIsSeen}
 use Rattle.zone_model.proofs.NameLaws.{same-true, same-refl}
 use Rattle.zone_model.proofs.AncestryLaws.{is_ancestor_from, is_ancestor_gives}
 use Rattle.zone_model.proofs.OrderLaws.{ascending-zone, ascending-some}
@@ -153,4 +153,44 @@ permissions_seen = record {
       tests_alike (may_write g.seen caller.user) (may_write (zone_at log caller.key).rows caller.user)
       (λ y. ap (λ s. may_write (view_of log caller.user s caller.key).rows caller.user y) scope ∙ writing log caller.key caller.user y apart)
       (find (is_seen g) (ancestors g.working x));
+}
+
+-- ---- nothing else is seen
+
+covered_by : (rows : List Record) (u x : List ℕ) (t : Record) (o : Option ShareOf) → record_at rows t.name ≡ Some t → share_of t ≡ o
+    → is_some_and (λ (s : ShareOf). is_ancestor rows s.root x && gives ReadOnly u s) o ≡ true → IsCoveredBy rows u x t
+covered_by rows u x t None at is e = absurd (both_ways false refl e)
+covered_by rows u x t (Some s) at is e =
+    let parts = and_parts (is_ancestor rows s.root x) (gives ReadOnly u s) e in
+    record { share = s; there = at; is = is; accepted = parts.1; above = is_ancestor_gives rows s.root x parts.0 }
+
+abbrev SeenRightly : List Record → List ℕ → List ℕ → Record → Type 0
+SeenRightly rows u x r = (record_at rows x ≡ Some r) × ((is_some_and (has_accepted u) (share_of r) ≡ true) ⊎ ((t : Record) × IsCoveredBy rows u x t))
+
+seen_rightly : (rows : List Record) (u x : List ℕ) (r : Record) → IsAscending rows → record_at (filter (is_visible rows u) rows) x ≡ Some r → SeenRightly rows u x r
+seen_rightly rows u x r ascend e =
+    let found = found-some (is_visible rows u) rows x r ascend e in
+    let at : record_at rows x ≡ Some r = found.0 in (
+      at,
+      ⊎_elim
+          (λ (covered : covers rows u r.name ≡ true).
+          let t = found-any (reaches rows ReadOnly u r.name) rows ascend covered in
+          inr (t.0, subst (λ y. IsCoveredBy rows u y t.0) (sym (same-true x r.name (found-name rows x r at))) (covered_by rows u r.name t.0 (share_of t.0) t.1 refl t.2)))
+          (λ (accepts : is_some_and (has_accepted u) (share_of r) ≡ true). inl accepts)
+          (or_cases (covers rows u r.name) (is_some_and (has_accepted u) (share_of r)) found.1),
+    )
+
+of_others : (log : List Commit) (key : ZoneKey) (u x : List ℕ) (r : Record) (hidden : Bool) → record_at (if hidden then nowhere else participant_view (zone_at log key) u).rows x ≡ Some r → SeenRightly (zone_at log key).rows u x r
+of_others log key u x r true e = absurd (none-some None r refl e)
+of_others log key u x r false e = seen_rightly (zone_at log key).rows u x r (ascending-zone log key) e
+
+hides : (log : List Commit) (key : ZoneKey) (u : List ℕ) → (same u key.owner || is_default key) ≡ true → view_of log u Shared key ≡ nowhere
+hides log key u e = ap (λ b. if b then nowhere else participant_view (zone_at log key) u) e
+
+pub nothing_else : NothingElseIsSeen
+nothing_else = record {
+  records = λ log key u x r e. of_others log key u x r (same u key.owner || is_default key) e;
+  strangers = λ log key u e. ap (λ b. if b then owner_view (zone_at log key) else nowhere) e;
+  own = λ log key u e. hides log key u (or_left (same u key.owner) (is_default key) e);
+  defaults = λ log key u e. hides log key u (or_right (same u key.owner) (is_default key) e);
 }

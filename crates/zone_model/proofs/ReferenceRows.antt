@@ -65,21 +65,21 @@ x = codes "x"
 
 -- ---- values that refer
 
-abbrev to : Action → List ℕ → RefTo
+abbrev pub to : Action → List ℕ → RefTo
 to action target = record { name = target; action = action }
 
-references_to : (q : RefTo) → references_in (Reference q) ≡ q ∷ []
+pub references_to : (q : RefTo) → references_in (Reference q) ≡ q ∷ []
 references_to q = ap level_references (ap out-Value (sym (rolls-Reference q)) ∙ out-roll-Value (Value-F.Reference q))
 
-size_to : (q : RefTo) → size (Reference q) ≡ length q.name + 8
+pub size_to : (q : RefTo) → size (Reference q) ≡ length q.name + 8
 size_to q = ap size (sym (rolls-Reference q)) ∙ fold-roll-Value ℕ size_step (Value-F.Reference q)
 
 -- ---- requests whose judgement and removal are told
 
-abbrev by_ann : Caller
+abbrev pub by_ann : Caller
 by_ann = record { user = ann; scope = Private; key = notes }
 
-abbrev by_bob : Caller
+abbrev pub by_bob : Caller
 by_bob = record { user = bob; scope = Shared; key = notes }
 
 abbrev asked : Caller → List Commit → List Op → Request
@@ -134,6 +134,10 @@ bound_ops = create a ∷ create_bound b (To a) DeleteSelf a ∷ create_under c b
 abbrev bound : List Commit
 bound = made ++ puts_of (bound_rows to_a) ∷ []
 
+pub bound_is_lawful : are_lawful [] bound ≡ true
+unfolding digits
+bound_is_lawful = rw (size_to (to DeleteSelf a)) refl
+
 bound_judged : judgement_at by_ann 1000 made bound_ops ≡ None ∷ None ∷ None ∷ []
 unfolding digits
 bound_judged = rw (references_to (to DeleteSelf a), size_to (to DeleteSelf a)) refl
@@ -181,6 +185,10 @@ loose_rows v = row a None [] ∷ row b None (field v) ∷ row c (Some b) [] ∷ 
 abbrev loose : List Commit
 loose = made ++ puts_of (loose_rows to_a) ∷ []
 
+pub loose_is_lawful : are_lawful [] loose ≡ true
+unfolding digits
+loose_is_lawful = rw (size_to (to DeleteSelf a)) refl
+
 abbrev loose_ops : List Op
 loose_ops = create a ∷ create_bound b Absent DeleteSelf a ∷ create_under c b ∷ []
 
@@ -218,6 +226,10 @@ put_goes_at_once =
 
 pub put_is_gone : seen (asks loose update_and_delete) ann Private ≡ []
 put_is_gone = ap (λ cs. seen (loose ++ cs) ann Private) put_goes_at_once
+
+pub put_and_removed_is_lawful : are_lawful [] (asks loose update_and_delete) ≡ true
+unfolding digits
+put_and_removed_is_lawful = ap (λ cs. are_lawful [] (loose ++ cs)) put_goes_at_once ∙ rw (size_to (to DeleteSelf a)) refl
 
 pub removed_put_counts : seen (asks (asks loose update_and_delete) (create c ∷ [])) ann Private ≡ (c, 3) ∷ []
 unfolding digits
@@ -397,6 +409,10 @@ to_d_too = Reference (to DeleteSelf d)
 
 abbrev two : List Commit
 two = made ++ puts_of (row d None [] ∷ row r None [] ∷ []) ∷ []
+
+pub two_are_lawful : are_lawful [] two ≡ true
+unfolding digits
+two_are_lawful = refl
 
 abbrev share_and_delete : List Op
 share_and_delete = op_of (record (share_draft s r (Some (codes "1")) []) { fields = (codes "f", Some to_d_too) ∷ [] }) ∷ delete d 1 ∷ []

@@ -1,4 +1,4 @@
--- The rules at worked examples; most of the logs are shown to be lawful too.
+-- The rules at worked examples; each of the logs is shown to be lawful too.
 use Rattle.std.proofs.Common.{◌≡◌, ℕ, List, [], ◌∷◌, ◌++◌, Some, None, refl, true, false, length, Option, map}
 use Rattle.std.specs.Prelude.{codes, option_map, option_and_then}
 use Rattle.std.specs.Fmt.{digits}
@@ -83,6 +83,10 @@ sx = codes "sx"
 abbrev three : List Commit
 three = asks made (create a ∷ create b ∷ create c ∷ [])
 
+pub three_is_lawful : are_lawful [] three ≡ true
+unfolding digits
+three_is_lawful = refl
+
 abbrev one_stale : List Op
 one_stale = update a 1 ∷ update b 0 ∷ update c 1 ∷ []
 
@@ -121,6 +125,14 @@ two_changed_is_lawful = refl
 
 abbrev one : List Commit
 one = asks made (create a ∷ [])
+
+pub one_is_lawful : are_lawful [] one ≡ true
+unfolding digits
+one_is_lawful = refl
+
+pub one_deleted_is_lawful : are_lawful [] (asks one (delete a 1 ∷ [])) ≡ true
+unfolding digits
+one_deleted_is_lawful = refl
 
 pub one_goes : told (asked_by ann Private one true (delete a 1 ∷ [])) ≡ gone a ∷ []
 unfolding digits
@@ -189,6 +201,10 @@ parent_alone_is_lawful = refl
 abbrev chain : List Commit
 chain = asks made (create a ∷ create_under b a ∷ create_under c b ∷ [])
 
+pub chain_is_lawful : are_lawful [] chain ≡ true
+unfolding digits
+chain_is_lawful = refl
+
 pub parent_is_not_turned : told (asked_by ann Private chain true (update_with b 1 (To c) ∷ [])) ≡ refused BadRequest ∷ []
 unfolding digits
 parent_is_not_turned = refl
@@ -229,6 +245,10 @@ held_back_is_not_committed = refl
 
 abbrev shared : List Commit
 shared = asks (asks made (create r ∷ [])) (create_share s r 1 (invited bob ReadOnly ∷ []) ∷ [])
+
+pub shared_is_lawful : are_lawful [] shared ≡ true
+unfolding digits
+shared_is_lawful = refl
 
 abbrev link_at : List Commit → List ℕ → Option (List ℕ)
 link_at log name = option_map (λ (t : ShareOf). t.guid) (option_and_then share_of (record_at (zone_at log notes).rows name))
@@ -338,6 +358,10 @@ at_home = record { user = ann; scope = Private; key = home }
 abbrev two_at_home : List Commit
 two_at_home = (modified at_home 1000 [] true (create a ∷ create b ∷ []) []).commits
 
+pub two_at_home_are_lawful : are_lawful [] two_at_home ≡ true
+unfolding digits
+two_at_home_are_lawful = refl
+
 pub each_is_a_commit : length two_at_home ≡ 2
 unfolding digits
 each_is_a_commit = refl
@@ -368,6 +392,9 @@ on_deletes = record { create = false; update = false; delete = true }
 abbrev watching : List Commit
 watching = act_at home (watch on_all) ∷ act_at home (watch on_deletes) ∷ []
 
+pub watching_is_lawful : are_lawful [] watching ≡ true
+watching_is_lawful = refl
+
 -- the one that was set last
 pub last_one_is_kept : map (λ (t : Subscription). t.fires) (subscriptions_of watching ann Private) ≡ on_deletes ∷ []
 last_one_is_kept = refl
@@ -387,8 +414,16 @@ abbrev nested : List Commit
 nested = asks (asks made (create r ∷ create_under x r ∷ create_under y x ∷ create_under z y ∷ []))
     (create_share sr r 1 (invited bob ReadOnly ∷ invited dan ReadOnly ∷ []) ∷ create_share sx x 1 (invited cat ReadOnly ∷ invited dan ReadOnly ∷ []) ∷ [])
 
+pub nested_is_lawful : are_lawful [] nested ≡ true
+unfolding digits
+nested_is_lawful = refl
+
 abbrev nested_accepted : List Commit
 nested_accepted = accepts (accepts (accepts (accepts nested bob sr) cat sx) dan sr) dan sx
+
+pub nested_accepted_is_lawful : are_lawful [] nested_accepted ≡ true
+unfolding digits
+nested_accepted_is_lawful = refl
 
 abbrev unshared : List Commit
 unshared = asks nested_accepted (force_delete sr ∷ [])
@@ -443,6 +478,10 @@ abbrev two_permissions : List Commit
 two_permissions = accepts (accepts (asks (asks made (create r ∷ create_under x r ∷ create_under y x ∷ []))
     (create_share sr r 1 (invited dan ReadOnly ∷ []) ∷ create_share sx x 1 (invited dan ReadWrite ∷ []) ∷ [])) dan sr) dan sx
 
+pub two_accepted_are_lawful : are_lawful [] two_permissions ≡ true
+unfolding digits
+two_accepted_are_lawful = refl
+
 pub lower_may_be_written : told (asked_by dan Shared two_permissions true (update y 1 ∷ [])) ≡ put y 2 ∷ []
 unfolding digits
 lower_may_be_written = refl
@@ -459,6 +498,10 @@ two_permissions_are_lawful = refl
 
 abbrev grown : List Commit
 grown = accepts (asks (asks made (create z ∷ create_under a z ∷ create_under b z ∷ create_under c z ∷ [])) (create_share y z 1 (invited bob ReadOnly ∷ []) ∷ [])) bob y
+
+pub grown_is_lawful : are_lawful [] grown ≡ true
+unfolding digits
+grown_is_lawful = refl
 
 pub entries_before : entries_of grown bob Shared ≡ a ∷ b ∷ c ∷ y ∷ z ∷ []
 unfolding digits
@@ -506,7 +549,7 @@ fold_has = refl
 
 -- ---- revocation
 
-abbrev revoked : List Commit
+abbrev pub revoked : List Commit
 revoked = asks accepted (set_participants s [] ∷ [])
 
 pub revoking_is_told : told_ann accepted (set_participants s [] ∷ []) ≡ put s 3 ∷ []
@@ -546,6 +589,10 @@ revoked_is_lawful = refl
 
 abbrev unseen_edit : List Commit
 unseen_edit = asks accepted (create h ∷ [])
+
+pub unseen_edit_is_lawful : are_lawful [] unseen_edit ≡ true
+unfolding digits
+unseen_edit_is_lawful = refl
 
 pub unseen_edit_is_told : told_ann accepted (create h ∷ []) ≡ put h 1 ∷ []
 unfolding digits
@@ -645,6 +692,10 @@ left_is_lawful = refl
 abbrev opened : List Commit
 opened = accepts (asks accepted (set_public s ReadOnly ∷ [])) cat s
 
+pub opened_is_lawful : are_lawful [] opened ≡ true
+unfolding digits
+opened_is_lawful = refl
+
 pub opening_is_told : told_ann accepted (set_public s ReadOnly ∷ []) ≡ put s 3 ∷ []
 unfolding digits
 opening_is_told = refl
@@ -663,6 +714,10 @@ cat_comes_in = refl
 
 abbrev closed : List Commit
 closed = asks opened (set_public s Nothing ∷ [])
+
+pub closed_is_lawful : are_lawful [] closed ≡ true
+unfolding digits
+closed_is_lawful = refl
 
 pub closing_is_told : told_ann opened (set_public s Nothing ∷ []) ≡ put s 5 ∷ []
 unfolding digits

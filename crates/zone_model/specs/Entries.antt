@@ -1,19 +1,14 @@
 -- The change entries of a viewer, and those that are live.
-use Rattle.std.specs.Prelude.{ℕ, suc, Bool, not, ◌||◌, nat_lt, List, [], ◌∷◌, ◌++◌, filter, if◌then◌else◌}
+use Rattle.std.specs.Prelude.{ℕ, suc, Bool, not, nat_lt, List, [], ◌∷◌, ◌++◌, filter, if◌then◌else◌}
 use Rattle.std.specs.List.{list_any}
 use Rattle.ck_records.specs.declared.view.View.{View}
 use Rattle.zone_model.specs.Names.{names_of_both}
 use Rattle.zone_model.specs.Records.{record_at, names_in}
-use Rattle.zone_model.specs.Same.{same_bool, same_found}
-use Rattle.zone_model.specs.Views.{is_empty}
+use Rattle.zone_model.specs.Same.{same_found}
 
 -- the names whose record differs, in ascending order
 abbrev pub changed : View → View → List (List ℕ)
 changed v w = filter (λ x. not (same_found (record_at v.rows x) (record_at w.rows x))) (names_of_both (names_in v.rows) (names_in w.rows))
-
--- a record differs, or whether the zone is here
-abbrev pub differs : View → View → Bool
-differs v w = not (same_bool v.here w.here) || not (is_empty (changed v w))
 
 -- the names that change from each view to the next, one list after another; they are numbered from 1
 abbrev pub entries : List View → List (List ℕ)

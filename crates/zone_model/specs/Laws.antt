@@ -1,5 +1,5 @@
 -- The laws of the rules.
-use Rattle.std.specs.Prelude.{◌≡◌, find, Some, None, ◌<◌, ◌+◌, ◌^◌, ℕ, suc, length, is_some, Bool, true, false, List, [], ◌∷◌, ◌++◌, fold, if◌then◌else◌}
+use Rattle.std.specs.Prelude.{◌≡◌, find, Some, None, ◌<◌, ◌≤◌, ◌+◌, ◌^◌, ℕ, suc, length, map, is_some, Bool, true, false, List, [], ◌∷◌, ◌++◌, drop, fold, zip, Option, option_and_then, ◌⊎◌, if◌then◌else◌}
 use Rattle.std.specs.List.{list_any, list_all, AllByRecursion}
 use Rattle.ck_base.specs.Names.{IsName}
 use Rattle.ck_base.specs.Guids.{IsGuid}
@@ -7,7 +7,7 @@ use Rattle.ck_records.specs.Meant.{IsMeantDraft}
 use Rattle.ck_records.specs.Stored.{IsStored}
 use Rattle.ck_base.specs.declared.key.ZoneKey.{ZoneKey}
 use Rattle.ck_base.specs.declared.scope.Scope.{Scope}
-use Rattle.ck_base.specs.declared.scope.Scope.TheVariants.{Shared}
+use Rattle.ck_base.specs.declared.scope.Scope.TheVariants.{Private, Shared}
 use Rattle.share_records.specs.declared.share.Share.{Share as ShareOf}
 use Rattle.ck_records.specs.declared.records.Record.{Record}
 use Rattle.ck_records.specs.declared.view.View.{View}
@@ -18,28 +18,31 @@ use Rattle.zone_model.specs.declared.commits.Commit.{Commit}
 use Rattle.zone_model.specs.declared.operations.Op.{Op}
 use Rattle.zone_model.specs.declared.operations.Past.{Past}
 use Rattle.zone_model.specs.declared.outcomes.OpFault.{OpFault}
+use Rattle.zone_model.specs.declared.outcomes.OpFault.TheVariants.{Conflict}
 use Rattle.zone_model.specs.declared.outcomes.Outcome.TheVariants.{Put, Refused}
-use Rattle.zone_model.specs.Names.{same, same_key, is_default, is_in, has_twice}
-use Rattle.zone_model.specs.Records.{record_at, is_there, share_of, IsAscending}
+use Rattle.zone_model.specs.Names.{same, same_key, is_default, is_shared, is_in, has_twice}
+use Rattle.zone_model.specs.Records.{record_at, is_there, share_of, is_share, IsAscending}
 use Rattle.zone_model.specs.Options.{is_some_and}
 use Rattle.zone_model.specs.Coverage.{has_accepted, may_write}
 use Rattle.zone_model.specs.Same.{same_record, same_view}
 use Rattle.zone_model.specs.Zones.{zone_at, after_act, commits_at, act_puts, puts_at}
 use Rattle.zone_model.specs.Subscriptions.{subscriptions_at, subscriptions_after}
 use Rattle.zone_model.specs.Ancestry.{IsAncestor, ancestors, is_ancestor}
-use Rattle.zone_model.specs.Views.{view_of, views_at_fronts, without_repeats, views_of, last_view}
+use Rattle.zone_model.specs.Views.{nowhere, view_of, views_at_fronts, without_repeats, views_of, last_view}
 use Rattle.zone_model.specs.Entries.{changed, entries}
 use Rattle.zone_model.specs.Pages.{page}
 use Rattle.zone_model.specs.Copies.{Copy, IsInStep, fold_page}
-use Rattle.zone_model.specs.ZoneEntries.{is_noticed, zone_entries}
+use Rattle.zone_model.specs.ZoneEntries.{is_noticed, zone_entries, zone_page}
+use Rattle.zone_model.specs.ZoneFeed.{feed_page}
 use Rattle.zone_model.specs.Cascade.{IsLeast, removed_names}
-use Rattle.zone_model.specs.Requests.{Caller, Putting, name_of_op, name_of_put, puts_in, roots_in}
-use Rattle.zone_model.specs.Grounds.{grounds_of, is_seen, is_writable}
+use Rattle.zone_model.specs.Requests.{Caller, Putting, is_deletion, is_forced, begins_share, new_parent, name_of_op, name_of_put, root_given, root_tag_given, puts_in, roots_in}
+use Rattle.zone_model.specs.Grounds.{Grounds, grounds_of, is_seen, is_stale, is_writable}
+use Rattle.zone_model.specs.Judging.{judgement}
 use Rattle.zone_model.specs.Effect.{Request, removed, writes}
 use Rattle.zone_model.specs.PlainCreates.{IsOwner, is_plain_create, refusal_of_create, created_record}
 use Rattle.zone_model.specs.OnePuts.{commit_of_put, IsOnePut, last_put, count_puts}
 use Rattle.zone_model.specs.Form.{IsKey, are_in_order, IsInForm}
-use Rattle.zone_model.specs.Modifying.{request_at, judgement_at, effect_at, modified_as_one, modified, commits_of_request}
+use Rattle.zone_model.specs.Modifying.{outcome_of, request_at, judgement_at, effect_at, modified_as_one, modified, commits_of_request}
 use Rattle.zone_model.specs.Lawful.{has_next_tag, are_lawful}
 use Rattle.zone_model.specs.declared.events.Event.{Event}
 use Rattle.zone_model.specs.Events.{commits_of, log_of}
@@ -118,10 +121,22 @@ pub record ViewsGrow : Type 0 where
   pub unseen : (log : List Commit) (c : Commit) (u : List ℕ) (scope : Scope) (key : ZoneKey) → view_of log u scope key ≡ view_of (log ++ c ∷ []) u scope key
       → entries (views_of (log ++ c ∷ []) u scope key) ≡ entries (views_of log u scope key)
 
--- one commit more adds at most its own zone to those that changed for a user
-abbrev pub ZoneEntriesGrow : Type 0
-ZoneEntriesGrow = (log : List Commit) (c : Commit) (u : List ℕ) (scope : Scope)
-    → zone_entries (log ++ c ∷ []) u scope ≡ zone_entries log u scope ++ (if is_noticed u scope log c then c.key ∷ [] else [])
+-- One commit more adds at most its own zone to those that changed for a user, and none where the user's view stays as it was.
+pub record ZoneEntriesGrow : Type 0 where
+  pub more : (log : List Commit) (c : Commit) (u : List ℕ) (scope : Scope)
+      → zone_entries (log ++ c ∷ []) u scope ≡ zone_entries log u scope ++ (if is_noticed u scope log c then c.key ∷ [] else [])
+  pub unseen : (log : List Commit) (c : Commit) (u : List ℕ) (scope : Scope) → view_of log u scope c.key ≡ view_of (log ++ c ∷ []) u scope c.key
+      → zone_entries (log ++ c ∷ []) u scope ≡ zone_entries log u scope
+
+-- A page of the feed over all locks lists no more zones than its limit; where no more follows, the number of each lock is that of all its
+-- entries. At each lock a zone with an entry above the number is listed, or has one above the page's number, which goes up where more follows.
+pub record FeedsLoseNothing : Type 0 where
+  pub limit : (u : List ℕ) (scope : Scope) (logs : List (List Commit)) (ns : List ℕ) (k : ℕ) → length (feed_page u scope logs ns k).zones ≤ k
+  pub whole : (u : List ℕ) (scope : Scope) (logs : List (List Commit)) (ns : List ℕ) (k : ℕ) → length ns ≡ length logs → (feed_page u scope logs ns k).more ≡ false
+      → (feed_page u scope logs ns k).numbers ≡ map (λ log. length (zone_entries log u scope)) logs
+  pub kept : (log : List Commit) (u : List ℕ) (scope : Scope) (n k : ℕ) (key : ZoneKey) → list_any (same_key key) (drop n (zone_entries log u scope)) ≡ true
+      → (list_any (same_key key) (zone_page log u scope n k).names ≡ true) ⊎ (list_any (same_key key) (drop (zone_page log u scope n k).number (zone_entries log u scope)) ≡ true)
+  pub onward : (log : List Commit) (u : List ℕ) (scope : Scope) (n k : ℕ) → 0 < k → (zone_page log u scope n k).more ≡ true → n < (zone_page log u scope n k).number
 
 -- equal neighbours give no entry
 abbrev pub EqualViewsGiveNone : Type 0
@@ -130,11 +145,13 @@ EqualViewsGiveNone = (us : List View) (v : View) (vs : List View) → entries (u
 -- ---- copies
 
 -- A copy that is in step, with the page above its number, is in step with the page's number, and is the last view where no more follows.
--- The copy may have been in step before further commits.
+-- The copy may have been in step before further commits. A page keeps its limit, and where more follows its number goes up.
 pub record PagesKeepInStep : Type 0 where
   pub step : (vs : List View) (copy : Copy) (n k : ℕ) → IsInStep copy n vs → IsInStep (fold_page copy (page vs n k).items) (page vs n k).number vs
   pub whole : (vs : List View) (copy : Copy) (n k : ℕ) → IsInStep copy n vs → (page vs n k).more ≡ false
       → (x : List ℕ) → fold_page copy (page vs n k).items x ≡ record_at (last_view vs).rows x
+  pub limit : (vs : List View) (n k : ℕ) → length (page vs n k).items ≤ k
+  pub onward : (vs : List View) (n k : ℕ) → 0 < k → (page vs n k).more ≡ true → n < (page vs n k).number
   pub later : (log more : List Commit) (u : List ℕ) (scope : Scope) (key : ZoneKey) (copy : Copy) (n k : ℕ) → IsInStep copy n (views_of log u scope key)
       → IsInStep (fold_page copy (page (views_of (log ++ more) u scope key) n k).items) (page (views_of (log ++ more) u scope key) n k).number (views_of (log ++ more) u scope key)
 
@@ -168,6 +185,43 @@ pub record PermissionsAreSeen : Type 0 where
   pub judging : (log : List Commit) (caller : Caller) (pasts : List Past) (ops : List Op) (x : List ℕ) → caller.scope ≡ Shared → IsParticipantsZone caller.key caller.user
       → (let g = grounds_of caller pasts (view_of log caller.user caller.scope caller.key).rows ops in
       is_writable g x ≡ is_some_and (may_write (zone_at log caller.key).rows caller.user) (find (is_seen g) (ancestors g.working x)))
+
+-- the record t is a share that covers x for the user
+pub record IsCoveredBy (rows : List Record) (u x : List ℕ) (t : Record) : Type 0 where
+  pub share : ShareOf
+  pub there : record_at rows t.name ≡ Some t
+  pub is : share_of t ≡ Some share
+  pub accepted : has_accepted u share ≡ true
+  pub above : IsAncestor rows share.root x
+
+-- A participant sees nothing else than what a share that they accepted covers, and such shares. In the private scope nothing of
+-- others is seen, and in the shared scope nothing of one's own and no default zone.
+pub record NothingElseIsSeen : Type 0 where
+  pub records : (log : List Commit) (key : ZoneKey) (u x : List ℕ) (r : Record) → record_at (view_of log u Shared key).rows x ≡ Some r
+      → (record_at (zone_at log key).rows x ≡ Some r) × ((is_some_and (has_accepted u) (share_of r) ≡ true) ⊎ ((t : Record) × IsCoveredBy (zone_at log key).rows u x t))
+  pub strangers : (log : List Commit) (key : ZoneKey) (u : List ℕ) → same u key.owner ≡ false → view_of log u Private key ≡ nowhere
+  pub own : (log : List Commit) (key : ZoneKey) (u : List ℕ) → same u key.owner ≡ true → view_of log u Shared key ≡ nowhere
+  pub defaults : (log : List Commit) (key : ZoneKey) (u : List ℕ) → is_default key ≡ true → view_of log u Shared key ≡ nowhere
+
+-- What may be put in the shared scope: a record of the view that is writable and no share; or a new one that begins no share, under a
+-- parent that is writable.
+pub record IsPermittedPut (g : Grounds) (op : Op) : Type 0 where
+  pub old : is_seen g (name_of_op op) ≡ true → (is_writable g (name_of_op op) ≡ true) × (is_some_and is_share (record_at g.seen (name_of_op op)) ≡ false)
+  pub new : is_seen g (name_of_op op) ≡ false
+      → (begins_share g.seen (record { kind = op.kind; draft = op.draft; guid = [] }) ≡ false) × ((q : List ℕ) × (new_parent op.draft ≡ Some q) × (is_writable g q ≡ true))
+
+-- what may be deleted there: a share, which is left, or what is writable and has no share
+abbrev pub IsPermittedDeletion : Grounds → Op → Type 0
+IsPermittedDeletion g op = (r : Record) → record_at g.seen (name_of_op op) ≡ Some r → (is_share r ≡ true) ⊎ ((is_writable g r.name ≡ true) × (is_some r.share ≡ false))
+
+pub record IsPermitted (g : Grounds) (judged : Op × Option OpFault) : Type 0 where
+  pub put : judged.1 ≡ None → is_deletion judged.0.kind ≡ false → IsPermittedPut g judged.0
+  pub deletion : judged.1 ≡ None → is_deletion judged.0.kind ≡ true → IsPermittedDeletion g judged.0
+
+-- in the shared scope nothing passes that is not permitted
+abbrev pub SharedChangesArePermitted : Type 0
+SharedChangesArePermitted = (caller : Caller) (view : View) (pasts : List Past) (ops : List Op) → is_shared caller.scope ≡ true
+    → AllByRecursion (IsPermitted (grounds_of caller pasts view.rows ops)) (zip ops (judgement view pasts ops caller))
 
 -- ---- commits that put one record
 
@@ -223,6 +277,30 @@ pub record PlainCreatesAreInForm : Type 0 where
       → IsName user → moment < 2 ^ 64 → suc (puts (name_of_op op)) < 2 ^ 64
       → IsStored (created_record user moment puts op.draft)
   pub formed : (key : ZoneKey) (user : List ℕ) (moment : ℕ) (r : Record) → IsKey key → IsName user → moment < 2 ^ 64 → IsStored r → IsInForm (commit_of_put key user moment r)
+
+-- What is shown of a conflict is the record of the name, whose tag is another one than was given; or, where a share is begun under a
+-- name that none has, the root that was given, whose tag is. The operation is not forced.
+abbrev pub IsInTheWay : List Record → Op → Record → Type 0
+IsInTheWay seen op r =
+    (is_forced op.kind ≡ false)
+    × (((record_at seen (name_of_op op) ≡ Some r) × (is_stale op.draft.tag r ≡ true))
+    ⊎ ((record_at seen (name_of_op op) ≡ None) × (begins_share seen (record { kind = op.kind; draft = op.draft; guid = [] }) ≡ true)
+    × (option_and_then (record_at seen) (root_given op.draft) ≡ Some r) × (is_stale (root_tag_given op.draft) r ≡ true)))
+
+abbrev pub IsShown : Request → Op × Option OpFault → Type 0
+IsShown q judged = (r : Record) × (outcome_of q judged ≡ Refused Conflict (Some r)) × IsInTheWay q.seen judged.0 r
+
+abbrev pub ShowsConflict : Request → Op × Option OpFault → Type 0
+ShowsConflict q judged = judged.1 ≡ Some Conflict → IsShown q judged
+
+-- A refusal shows a record only where it is a conflict, and each conflict shows the record that stands in its way.
+pub record ConflictsShowRecords : Type 0 where
+  pub only : (q : Request) (op : Op) (judged : Option OpFault) (fault : OpFault) (r : Record) → outcome_of q (op, judged) ≡ Refused fault (Some r) → fault ≡ Conflict
+  pub each : (q : Request) (view : View) (pasts : List Past) (ops : List Op) (caller : Caller) → q.seen ≡ view.rows → AllByRecursion (ShowsConflict q) (zip ops (judgement view pasts ops caller))
+
+-- each operation is judged
+abbrev pub EachIsJudged : Type 0
+EachIsJudged = (view : View) (pasts : List Past) (ops : List Op) (caller : Caller) → length (judgement view pasts ops caller) ≡ length ops
 
 -- What a request commits is in order by name, and its puts have the next tags.
 pub record EffectsAreInOrder : Type 0 where

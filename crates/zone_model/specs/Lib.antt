@@ -26,8 +26,10 @@ pub mod Entries
 pub mod Pages
 -- copies that are in step with a number, and the fold of a page
 pub mod Copies
--- the feed of zones that changed for a user
+-- the feed of zones that changed for a user, at one lock
 pub mod ZoneEntries
+-- the feed over all locks
+pub mod ZoneFeed
 -- the puts and deletions of a request
 pub mod Requests
 -- what has happened to the names that a request puts

@@ -1,6 +1,7 @@
 -- What a request on records comes to: its answers and its commits.
 use Rattle.std.specs.Prelude.{ℕ, Bool, not, ◌&&◌, List, [], ◌∷◌, ◌++◌, map, zip, Option, None, if◌then◌else◌, option_and_then}
 use Rattle.std.specs.Option.{option_map_or}
+use Rattle.ck_base.specs.declared.key.ZoneKey.{ZoneKey}
 use Rattle.ck_records.specs.declared.records.Record.{Record}
 use Rattle.zone_model.specs.declared.operations.Op.{Op}
 use Rattle.zone_model.specs.declared.outcomes.OpFault.{OpFault}
@@ -46,6 +47,10 @@ outcome_of q judged = option_map_or (λ fault. Refused fault (shown_with fault q
 
 -- ---- at a log
 
+-- an atomic request is judged as one, but never in a default zone
+abbrev pub is_judged_as_one : ZoneKey → Bool → Bool
+is_judged_as_one key atomic = atomic && not (is_default key)
+
 module _ (caller : Caller) (moment : ℕ) where
   abbrev pub request_at : List Commit → List Op → List (List ℕ) → Request
   request_at log ops guids = record {
@@ -79,9 +84,8 @@ module _ (caller : Caller) (moment : ℕ) where
       let rest = modified_apart (log ++ first.commits) ops (guids_left op guids) in
       record { outcomes = first.outcomes ++ rest.outcomes; commits = first.commits ++ rest.commits }
 
-  -- an atomic request is judged as one, but never in a default zone
   abbrev pub modified : List Commit → Bool → List Op → List (List ℕ) → Modified
-  modified log atomic ops guids = if atomic && not (is_default caller.key) then modified_as_one log ops guids else modified_apart log ops guids
+  modified log atomic ops guids = if is_judged_as_one caller.key atomic then modified_as_one log ops guids else modified_apart log ops guids
 
   abbrev pub commits_of_request : List Commit → Bool → List Op → List (List ℕ) → List Commit
   commits_of_request log atomic ops guids = (modified log atomic ops guids).commits

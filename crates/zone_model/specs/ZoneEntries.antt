@@ -5,12 +5,12 @@ use Rattle.ck_base.specs.declared.scope.Scope.{Scope}
 use Rattle.zone_model.specs.declared.commits.Commit.{Commit}
 use Rattle.zone_model.specs.Names.{same_key, is_default}
 use Rattle.zone_model.specs.Views.{view_of}
-use Rattle.zone_model.specs.Entries.{differs}
+use Rattle.zone_model.specs.Same.{same_view}
 use Rattle.zone_model.specs.Pages.{Choice, choice}
 
 -- the commit changes what the user sees of a custom zone, which can only be its own zone
 abbrev pub is_noticed : List ℕ → Scope → List Commit → Commit → Bool
-is_noticed u scope before c = not (is_default c.key) && differs (view_of before u scope c.key) (view_of (before ++ c ∷ []) u scope c.key)
+is_noticed u scope before c = not (is_default c.key) && not (same_view (view_of before u scope c.key) (view_of (before ++ c ∷ []) u scope c.key))
 
 abbrev pub zone_entries_after : List ℕ → Scope → List Commit → List Commit → List ZoneKey
 zone_entries_after u scope before [] = []

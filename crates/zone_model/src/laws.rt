@@ -1,5 +1,5 @@
 // What holds of the rules. The functions do nothing: their clauses are the laws.
-ghost use Rattle.zone_model.specs.Laws.{AlikeIsSame, AncestorsAreFound, RemovalIsLeast, ZonesGrow, ChangesNothing, StaysInOrder, RepeatsAreDropped, ViewsGrow, ZoneEntriesGrow, EqualViewsGiveNone, PagesKeepInStep, CopiesStayInStep, NothingIsInStep, EffectsAreInOrder, EffectsAreLawful, EffectsAreInForm, HistoriesStayLegal, PermissionsAreSeen, OnePutMore, PutsAreFound, OwnersSeeAll, OneIsEitherWay, PlainCreatesAreDone, PlainCreatesAreInForm};
+ghost use Rattle.zone_model.specs.Laws.{AlikeIsSame, AncestorsAreFound, RemovalIsLeast, ZonesGrow, ChangesNothing, StaysInOrder, RepeatsAreDropped, ViewsGrow, ZoneEntriesGrow, FeedsLoseNothing, EqualViewsGiveNone, PagesKeepInStep, CopiesStayInStep, NothingIsInStep, EffectsAreInOrder, EffectsAreLawful, EffectsAreInForm, HistoriesStayLegal, PermissionsAreSeen, NothingElseIsSeen, EachIsJudged, OnePutMore, PutsAreFound, OwnersSeeAll, OneIsEitherWay, PlainCreatesAreDone, PlainCreatesAreInForm, ConflictsShowRecords, SharedChangesArePermitted};
 
 /// Records that compare alike are the same, and each compares alike with itself; so do views.
 pub fn alike_is_same()
@@ -47,6 +47,12 @@ pub fn zone_entries_grow()
     ensures { ZoneEntriesGrow }
 {}
 
+/// A page of the feed of zones over all locks keeps its limit and goes on, and each zone that changed
+/// is listed or comes later.
+pub fn feeds_lose_nothing()
+    ensures { FeedsLoseNothing }
+{}
+
 /// Views that are equal to those before them give no entries.
 pub fn equal_views_give_none()
     ensures { EqualViewsGiveNone }
@@ -54,7 +60,7 @@ pub fn equal_views_give_none()
 
 /// A copy that is in step with a number, with the page above it folded in, is in step with the
 /// page's number, and is the last view where no more follows; other commits may come before the
-/// page.
+/// page. Pages keep their limit and go on.
 pub fn pages_keep_in_step()
     ensures { PagesKeepInStep }
 {}
@@ -127,4 +133,26 @@ pub fn plain_creates_are_in_form()
 /// permission, with all from its root down.
 pub fn permissions_are_seen()
     ensures { PermissionsAreSeen }
+{}
+
+/// A participant sees nothing but what a share that they accepted covers, and such shares.
+pub fn nothing_else_is_seen()
+    ensures { NothingElseIsSeen }
+{}
+
+/// Each operation of a request that is judged as one is judged.
+pub fn each_is_judged()
+    ensures { EachIsJudged }
+{}
+
+/// A refusal shows a record only where it is a conflict, and each conflict shows the record that
+/// stands in its way.
+pub fn conflicts_show_records()
+    ensures { ConflictsShowRecords }
+{}
+
+/// In the shared scope what a request puts or deletes without a fault is writable, and no share but
+/// one that its user leaves.
+pub fn shared_changes_are_permitted()
+    ensures { SharedChangesArePermitted }
 {}

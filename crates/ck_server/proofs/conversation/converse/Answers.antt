@@ -1,12 +1,11 @@
-use Rattle.std.proofs.Common.{◌≡◌, ◌<◌, ℕ, Bool, true, false, List, [], ◌∷◌, length, refl, sym, ap, subst, ◌∙◌, arith}
-use Rattle.http_front.specs.Reading.{Extends}
+use Rattle.std.proofs.Common.{ℕ, true, false, List, [], length, sym, ap, subst, arith}
 use Rattle.talk_model.specs.declared.marks.Mark.{Mark}
 use Rattle.talk_model.specs.Given.{Draws, GaveFor, givens_of}
-use Rattle.talk_model.specs.Connections.{most_requests}
 use Rattle.ck_server.specs.Conversations.{Standing}
 use Rattle.ck_server.proofs.GivenLemmas.{gave_on}
 use Rattle.ck_server.proofs.ServingLemmas.{gave_none}
-use Rattle.ck_server.proofs.OutcomeLemmas.{Goes, goes-start, spent_well, finished, broke, counted, goes_on, closes, left_unbuilt, breaks_serving}
+use Rattle.ck_server.proofs.OutcomeLemmas.{Goes, goes-start, spent_well, finished, broke, goes_on, closes, left_unbuilt, breaks_serving}
+use Rattle.ck_server.proofs.CompleteLemmas.{answers_all}
 use Rattle.ck_server.proofs.conversation.converse.Goals as goal
 
 pub loop-number-init : goal.loop-number-init
@@ -82,3 +81,15 @@ loop-number-preserved g c =
 pub returns-clause-talk : goal.returns-clause-talk
 returns-clause-talk g c =
     spent_well (g.B.Board.alone c.args.board.now) c.args.users.now _ _ _ c.loop-number.marks.items c.loop-number.buffer c.loop-number.invariant.goes c.loop-number.invariant.given (omega (arith, c.loop-number.invariant.count))
+
+pub returns-in-Ok-finish-clause-complete : goal.returns-in-Ok-finish-clause-complete
+returns-in-Ok-finish-clause-complete g c bytes requests left whole fine = answers_all _ _ _ _ _ _ _ (returns-in-Ok-finish-clause-talk g c) bytes requests left whole
+
+pub returns-in-Ok-Answered-2-clause-complete : goal.returns-in-Ok-Answered-2-clause-complete
+returns-in-Ok-Answered-2-clause-complete g c bytes requests left whole fine = answers_all _ _ _ _ _ _ _ (returns-in-Ok-Answered-2-clause-talk g c) bytes requests left whole
+
+pub returns-in-Ok-NotBuilt-clause-complete : goal.returns-in-Ok-NotBuilt-clause-complete
+returns-in-Ok-NotBuilt-clause-complete g c bytes requests left whole fine = answers_all _ _ _ _ _ _ _ (returns-in-Ok-NotBuilt-clause-talk g c) bytes requests left whole
+
+pub returns-clause-complete : goal.returns-clause-complete
+returns-clause-complete g c bytes requests left whole fine = answers_all _ _ _ _ _ _ _ (returns-clause-talk g c) bytes requests left whole

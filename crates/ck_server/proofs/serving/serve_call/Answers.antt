@@ -1,12 +1,11 @@
-use Rattle.std.proofs.Common.{◌≡◌, ◌≤◌, ℕ, Bool, true, false, [], ◌∷◌, List, length, refl, sym, ap, subst, ◌∙◌, arith}
+use Rattle.std.proofs.Common.{ℕ, Bool, true, false, [], ◌∷◌, length, refl, subst, ◌∙◌, arith}
 use Rattle.ck_devices.specs.Runs.{GivesInTurn}
 use Rattle.error_replies.specs.declared.errors.ServerError.TheVariants.{TryAgainLater}
-use Rattle.talk_model.specs.declared.ends.TalkFaultKind.TheVariants.{NoMemory}
 use Rattle.talk_model.specs.declared.wants.Want.TheVariants.{Called}
-use Rattle.talk_model.specs.Given.{Given, draws_by, Draws, AreSoMany, words_of_call}
+use Rattle.talk_model.specs.Given.{Given, draws_by, Draws, AreSoMany}
 use Rattle.ck_server.specs.Answering.{answering, Serves}
 use Rattle.ck_server.specs.Marking.{given_with, GaveOne}
-use Rattle.ck_server.proofs.ServingLemmas.{by_memory, given_up, gave_undrawn, gives_up_unasked, told_sent, told_broken, refusal_serves, undrawn_asks, undrawn_reply}
+use Rattle.ck_server.proofs.ServingLemmas.{by_memory, given_up, known_undrawn, gave_undrawn, gives_up_unasked, told_sent, told_broken, refusal_serves, undrawn_asks, undrawn_reply}
 use Rattle.ck_server.proofs.serving.serve_call.Goals as goal
 
 pub returns-in_err-drawn-clause-serves : goal.returns-in_err-drawn-clause-serves
@@ -15,7 +14,7 @@ returns-in_err-drawn-clause-serves g c t r closes wants =
     let before = answering (g.W.Sink.held c.args.sink.now) (g.B.Board.history c.args.board.now) (g.B.Board.seats c.args.board.now) in
     by_memory (λ res. Serves (g.B.Board.alone c.args.board.now) gave c.args.turn.number before before c.args.marks.now.items c.args.marks.now.items t r res) c.from_residual.result (c.from_residual.ensures).1
     (given_up (g.B.Board.alone c.args.board.now) gave c.args.turn.number (g.W.Sink.held c.args.sink.now) (g.B.Board.history c.args.board.now) (g.B.Board.seats c.args.board.now) c.args.marks.now.items t r
-    (given_with c.args.turn.moment [] true ∷ []) (omega arith) (gave_undrawn c.args.turn.moment _ c.args.words.now c.draw_words.new.words c.in_err-drawn.ensures.none))
+    (given_with c.args.turn.moment [] true ∷ []) (omega arith) (known_undrawn t r c.args.close c.args.call c.args.turn.moment closes wants) (gave_undrawn c.args.turn.moment _ c.args.words.now c.draw_words.new.words c.in_err-drawn.ensures.none))
 
 pub returns-in_err-told-clause-serves : goal.returns-in_err-told-clause-serves
 returns-in_err-told-clause-serves g c t r closes wants =
@@ -23,11 +22,12 @@ returns-in_err-told-clause-serves g c t r closes wants =
     let gave = GaveOne c.args.turn.moment draws c.args.words.now c.draw_words.new.words in
     let given : Given = given_with c.args.turn.moment c.in_ok-drawn.drawn.words.items true in
     let drew = subst (λ (b : Bool). GivesInTurn draws c.args.words.now (draws_by c.in_ok-drawn.drawn.words.items b) c.draw_words.new.words) c.if-drawn.true c.in_ok-drawn.ensures.drew in
+    let many = subst (λ (b : Bool). AreSoMany b c.words_of.result (length c.in_ok-drawn.drawn.words.items)) c.if-drawn.true c.in_ok-drawn.ensures.many in
     by_memory (λ res. Serves (g.B.Board.alone c.args.board.now) gave c.args.turn.number (answering (g.W.Sink.held c.args.sink.now) (g.B.Board.history c.args.board.now) (g.B.Board.seats c.args.board.now))
     (answering (g.W.Sink.held c.args.sink.now) (g.B.Board.history c.ask_call.new.board) (g.B.Board.seats c.ask_call.new.board)) c.args.marks.now.items c.ask_call.new.marks.items t r res)
     c.from_residual-in_err-told.result (c.from_residual-in_err-told.ensures).1
     (gives_up_unasked (g.B.Board.alone c.args.board.now) gave c.args.turn.number (g.W.Sink.held c.args.sink.now) (g.W.Sink.held c.args.sink.now) (g.B.Board.history c.args.board.now) (g.B.Board.history c.ask_call.new.board)
-    (g.B.Board.seats c.args.board.now) (g.B.Board.seats c.ask_call.new.board) c.args.marks.now.items c.ask_call.new.marks.items c.args.close c.args.call given (given, refl, refl, drew) refl refl c.in_err-told.ensures.asks t r closes wants)
+    (g.B.Board.seats c.args.board.now) (g.B.Board.seats c.ask_call.new.board) c.args.marks.now.items c.ask_call.new.marks.items c.args.close c.args.call given (given, refl, refl, drew) refl (many ∙ c.words_of.ensures) refl c.in_err-told.ensures.asks t r closes wants)
 
 pub returns-then-drawn-clause-serves : goal.returns-then-drawn-clause-serves
 returns-then-drawn-clause-serves g c t r closes wants =

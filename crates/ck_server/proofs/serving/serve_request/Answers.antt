@@ -1,4 +1,4 @@
-use Rattle.std.proofs.Common.{◌≡◌, ◌≤◌, ℕ, Bool, true, [], ◌∷◌, List, length, refl, sym, ap, subst, ◌∙◌, arith, Some}
+use Rattle.std.proofs.Common.{◌≡◌, ℕ, Bool, [], ◌∷◌, List, length, refl, sym, ap, subst, ◌∙◌, arith, Some}
 use Rattle.ck_devices.specs.Runs.{GivesInTurn}
 use Rattle.talk_model.specs.declared.wants.Want.TheVariants.{Refused}
 use Rattle.talk_model.specs.Requests.{want_of}
@@ -15,7 +15,7 @@ returns-in_err-want-clause-serves g c =
     let before = answering (g.W.Sink.held c.args.sink.now) (g.B.Board.history c.args.board.now) (g.B.Board.seats c.args.board.now) in
     by_memory (λ res. Serves (g.B.Board.alone c.args.board.now) gave c.args.number before before c.args.marks.now.items c.args.marks.now.items c.args.users.now c.args.request.now res) c.from_residual.result (c.from_residual.ensures).1
     (given_up (g.B.Board.alone c.args.board.now) gave c.args.number (g.W.Sink.held c.args.sink.now) (g.B.Board.history c.args.board.now) (g.B.Board.seats c.args.board.now) c.args.marks.now.items c.args.users.now c.args.request.now
-    [] (omega arith) (gave_none g.C.Clock.gives draws c.args.clock.now c.args.words.now))
+    [] (omega arith) tt (gave_none g.C.Clock.gives draws c.args.clock.now c.args.words.now))
 
 pub returns-in-Refused-clause-serves : goal.returns-in-Refused-clause-serves
 returns-in-Refused-clause-serves g c =

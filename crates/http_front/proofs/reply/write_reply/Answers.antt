@@ -1,5 +1,6 @@
 use Rattle.std.proofs.Common.{◌++◌, List, ℕ, length, subst, ◌∙◌, ◌≡◌}
-use Rattle.http_front.specs.Replies.{reply_head, WritesFront}
+use Rattle.ck_devices.specs.Fronts.{WritesFront}
+use Rattle.http_front.specs.Replies.{reply_head}
 use Rattle.http_front.proofs.ReplyLemmas.{on_err, front_of_head, front_of_body}
 use Rattle.http_front.proofs.reply.write_reply.Goals as goal
 
