@@ -12,7 +12,7 @@ use Rattle.zone_model.specs.Views.{view_of}
 use Rattle.zone_model.specs.Requests.{Caller}
 use Rattle.zone_model.specs.Modifying.{is_judged_as_one, commits_of_request}
 use Rattle.zone_model.specs.Events.{log_of, own}
-use Rattle.modify_ops.specs.Drawing.{named_ops, guids_of}
+use Rattle.drawn_names.specs.Drawing.{named_ops, guids_of}
 use Rattle.board_model.specs.declared.parts.Part.{Part}
 use Rattle.board_model.specs.declared.parts.Part.TheVariants.{Modify, Lookup}
 use Rattle.board_model.specs.declared.answers.Answer.{Answer}

@@ -9,8 +9,8 @@ use Rattle.zone_model.specs.declared.operations.Op.{Op}
 use Rattle.zone_model.specs.Names.{is_default}
 use Rattle.zone_model.specs.Form.{IsKey}
 use Rattle.zone_model.specs.PlainCreates.{is_plain_create}
-use Rattle.modify_ops.specs.Meant.{IsMeantOp}
-use Rattle.modify_ops.specs.Drawing.{words_drawn}
+use Rattle.zone_model.specs.OpForms.{IsMeantOp}
+use Rattle.drawn_names.specs.Drawing.{words_drawn}
 use Rattle.board_model.specs.declared.parts.Part.{Part}
 use Rattle.board_model.specs.declared.parts.Part.TheVariants.{Modify, Lookup}
 

@@ -1,7 +1,7 @@
 -- What an ask on records is given to see, and what it comes to by that alone.
 use Rattle.std.specs.Prelude.{ℕ, Bool, List, [], ◌∷◌, ◌++◌, map, zip, find, if◌then◌else◌}
 use Rattle.std.specs.Option.{option_map_or}
-use Rattle.ck_records.specs.declared.view.View.{View}
+use Rattle.record_model.specs.declared.view.View.{View}
 use Rattle.zone_model.specs.declared.operations.Op.{Op}
 use Rattle.zone_model.specs.declared.operations.Past.{Past}
 use Rattle.zone_model.specs.declared.commits.Commit.{Commit}

@@ -1,6 +1,6 @@
 // What a lock answers.
 use ck_base::Items;
-use ck_records::Record;
+use record_model::Record;
 use zone_model::Outcomes;
 
 /// The answer to a part.

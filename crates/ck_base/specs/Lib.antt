@@ -10,3 +10,5 @@ pub mod Reading
 pub mod Numbers
 -- share links
 pub mod Guids
+-- the names that the service knows
+pub mod KnownNames

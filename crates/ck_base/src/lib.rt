@@ -5,6 +5,7 @@
 mod bytes;
 mod guid;
 mod key;
+pub mod known;
 pub mod limits;
 mod lists;
 mod lock;
@@ -19,6 +20,7 @@ mod text;
 pub use bytes::Bytes;
 pub use guid::Guid;
 pub use key::ZoneKey;
+pub use known::is_own_default;
 pub use lists::{Items, RecordNames, Texts, ZoneKeys, clone_items};
 pub use lock::lock_of;
 pub use memory::NoMemory;
@@ -31,6 +33,3 @@ pub use route::{Database, Operation, Route};
 pub use scope::Scope;
 pub use steps::{Steps, Top};
 pub use text::Text;
-
-#[cfg(test)]
-mod tests;

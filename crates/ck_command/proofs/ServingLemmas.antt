@@ -15,7 +15,7 @@ use Rattle.talk_model.specs.declared.ends.TalkFaultKind.{TalkFaultKind}
 use Rattle.talk_model.specs.declared.ends.TalkFaultKind.TheVariants as fault
 use Rattle.talk_model.specs.declared.marks.Mark.{Mark}
 use Rattle.talk_model.specs.Given.{Given, AreWordsFor, given_of, givens_of, GaveFor}
-use Rattle.talk_model.specs.Requests.{Wanted}
+use Rattle.talk_model.specs.Requests.{Meaning}
 use Rattle.talk_model.specs.Marks.{AreMarksOf}
 use Rattle.talk_model.specs.Connections.{last_text}
 use Rattle.talk_model.specs.Alone.{alone_text}
@@ -24,7 +24,7 @@ use Rattle.ck_server.specs.Conversations.{Standing, Conversed, EndsIn, alone_rep
 use Rattle.ck_server.specs.Outcomes.{IsLast, IsInHand, EndsWell, BreaksOff}
 use Rattle.ck_command.specs.declared.endings.Ending.{Ending}
 use Rattle.ck_command.specs.declared.endings.Ending.TheVariants.{Done, DeviceFault, WrongWords, BadFile, Early, OutOfMemory}
-use Rattle.ck_command.specs.Words.{RunWords}
+use Rattle.ck_command.specs.Arguments.{RunArguments}
 use Rattle.ck_command.specs.Endings.{ending_of, MayRefuse}
 use Rattle.ck_command.specs.Serving.{RunServed, IsOfRunReply, EndsServed, BreaksServed, RunServes, GivenAre, ServesFile, Converses}
 
@@ -35,7 +35,7 @@ ending_at fault.WriteFault = DeviceFault
 ending_at fault.NoMemory = OutOfMemory
 
 module _ (t : Table) (gave : List Given → Type 0) (entry now : Standing) (marks : List Mark) (empty : (lock : ℕ) → entry.histories lock ≡ []) (sits : (lock : ℕ) → entry.seats lock ≡ Some 0) where
-  drawn : (number : ℕ) (ms : List Mark) (ws : List Wanted) → AreMarksOf now.seats number entry.histories now.histories ms ws → AllZip (λ (w : Wanted) (g : Given). AreWordsFor w.want g) ws (givens_of ms)
+  drawn : (number : ℕ) (ms : List Mark) (ws : List Meaning) → AreMarksOf now.seats number entry.histories now.histories ms ws → AllZip (λ (w : Meaning) (g : Given). AreWordsFor w.want g) ws (givens_of ms)
   drawn number [] [] all = tt
   drawn number [] (w ∷ ws) all = absurd all
   drawn number (m ∷ ms) [] all = absurd all
@@ -70,7 +70,7 @@ module _ (t : Table) (gave : List Given → Type 0) (entry now : Standing) (mark
   }
 
   -- what is unsent is of the last reply of the single-client run
-  run_late : (wanted : List Wanted) (rest last unsent : List ℕ) → IsOfLast ⊤ entry now wanted marks rest last unsent → EndsIn last unsent ⊎ ((last ≡ []) × (length rest < most_piece) × IsOfRunReply wanted (givens_of marks) unsent)
+  run_late : (wanted : List Meaning) (rest last unsent : List ℕ) → IsOfLast ⊤ entry now wanted marks rest last unsent → EndsIn last unsent ⊎ ((last ≡ []) × (length rest < most_piece) × IsOfRunReply wanted (givens_of marks) unsent)
   run_late wanted rest last unsent (inl ends) = inl ends
   run_late wanted rest last unsent (inr reply) =
       let r = reply.2 in
@@ -146,7 +146,7 @@ serves_given t gave gave2 left now held later OutOfMemory f s = breaks_given t g
 
 module _ {C R : Type 0} (clock : C → ℕ → C → Type 0) (draws : R → Result (List ℕ) Failed → R → Type 0) where
   -- a run that served its requests
-  pub converses_served : (before after : C) (words words2 : R) (left now held later : Option (List ℕ)) (files : Option Files) (asked : RunWords) (ending : Ending)
+  pub converses_served : (before after : C) (words words2 : R) (left now held later : Option (List ℕ)) (files : Option Files) (asked : RunArguments) (ending : Ending)
       → ServesFile clock draws before after words words2 left now held later files asked ending → Converses clock draws before after words words2 left now held later files (Some asked) ending
   converses_served before after words words2 left now held later files asked Done s = s
   converses_served before after words words2 left now held later files asked DeviceFault s = inr s
@@ -156,7 +156,7 @@ module _ {C R : Type 0} (clock : C → ℕ → C → Type 0) (draws : R → Resu
   converses_served before after words words2 left now held later files asked OutOfMemory s = inr s
 
   -- a run that read no table of users
-  pub converses_refused : (before : C) (words : R) (left held : Option (List ℕ)) (files : Option Files) (asked : RunWords) (ending : Ending)
+  pub converses_refused : (before : C) (words : R) (left held : Option (List ℕ)) (files : Option Files) (asked : RunArguments) (ending : Ending)
       → MayRefuse files asked.users ending → Converses clock draws before before words words left left held held files (Some asked) ending
   converses_refused before words left held files asked Done may = absurd may
   converses_refused before words left held files asked DeviceFault may = inl (record { clock = refl; undrawn = refl; source = refl; sink = refl })

@@ -5,7 +5,7 @@ use Rattle.talk_model.specs.declared.ends.End.{End}
 use Rattle.talk_model.specs.declared.ends.End.TheVariants as end
 use Rattle.ck_command.specs.declared.endings.Ending.{Ending}
 use Rattle.ck_command.specs.declared.endings.Ending.TheVariants.{Done, DeviceFault, WrongWords, BadFile, Early, OutOfMemory}
-use Rattle.ck_command.specs.Words.{RunWords}
+use Rattle.ck_command.specs.Arguments.{RunArguments}
 use Rattle.ck_command.specs.UsersFile.{HoldsUsers, LacksUsers}
 
 abbrev pub status_of : Ending → ℕ
@@ -60,7 +60,7 @@ MayServe OutOfMemory = ⊤
 
 -- how a run may end: the words are wrong, or no table of users was loaded, or there is one and the
 -- conversation ended so
-abbrev pub MayEnd : Option Files → Option RunWords → Ending → Type 0
+abbrev pub MayEnd : Option Files → Option RunArguments → Ending → Type 0
 MayEnd files None ending = ending ≡ WrongWords
 MayEnd files (Some asked) Done = HoldsUsers files asked.users
 MayEnd files (Some asked) DeviceFault = ⊤

@@ -1,5 +1,5 @@
--- what the words ask for
-pub mod Words
+-- what the arguments ask for
+pub mod Arguments
 -- the table of users in the file that they name
 pub mod UsersFile
 -- how a run ends, and its status

@@ -2,14 +2,14 @@
 use Rattle.std.specs.Prelude.{◌≡◌, ◌≢◌, ◌↔◌, ℕ, List, Option, None, Some, ⊤}
 use Rattle.ck_devices.specs.Files.{Files}
 use Rattle.ck_command.specs.declared.endings.Ending.{Ending}
-use Rattle.ck_command.specs.Words.{RunWords, asked_of}
+use Rattle.ck_command.specs.Arguments.{RunArguments, asked_of}
 use Rattle.ck_command.specs.UsersFile.{AsksForNoTable}
 use Rattle.ck_command.specs.Endings.{status_of, MayEnd}
 use Rattle.ck_command.specs.Lines.{line_of, Tells}
 
 -- where the shelf tells its files, the status is 3 exactly at right words that name no table of users,
 -- unless a device failed or memory ran out
-abbrev pub IsThreeAtNoTable : Option Files → Option RunWords → ℕ → Type 0
+abbrev pub IsThreeAtNoTable : Option Files → Option RunArguments → ℕ → Type 0
 IsThreeAtNoTable None asked status = ⊤
 IsThreeAtNoTable (Some files) asked status =
     status ≢ 1 → status ≢ 5 → (status ≡ 3) ↔ AsksForNoTable files asked

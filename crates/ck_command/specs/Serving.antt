@@ -8,7 +8,7 @@ use Rattle.ck_devices.specs.Runs.{GivesInTurn}
 use Rattle.http_front.specs.Reading.{most_piece, HasLastPiece}
 use Rattle.http_front.specs.Users.{Table}
 use Rattle.talk_model.specs.declared.ends.End.{End}
-use Rattle.talk_model.specs.Requests.{Wanted, Wants}
+use Rattle.talk_model.specs.Requests.{Meaning, Wants}
 use Rattle.talk_model.specs.Given.{Given, AreWordsFor, draws_of, GaveFor}
 use Rattle.talk_model.specs.Connections.{most_requests, GoOn, AreClosing, AreRequests, last_text}
 use Rattle.talk_model.specs.Alone.{alone_text}
@@ -16,7 +16,7 @@ use Rattle.ck_server.specs.Conversations.{EndsIn, alone_reply}
 use Rattle.ck_server.specs.Outcomes.{EndsSource, ReadsNoFurtherAt, IsLast, IsInHand}
 use Rattle.ck_command.specs.declared.endings.Ending.{Ending}
 use Rattle.ck_command.specs.declared.endings.Ending.TheVariants.{Done, DeviceFault, WrongWords, BadFile, Early, OutOfMemory}
-use Rattle.ck_command.specs.Words.{RunWords}
+use Rattle.ck_command.specs.Arguments.{RunArguments}
 use Rattle.ck_command.specs.UsersFile.{table_in}
 use Rattle.ck_command.specs.Endings.{ending_of}
 
@@ -25,12 +25,12 @@ use Rattle.ck_command.specs.Endings.{ending_of}
 -- last, all but unsent was written.
 pub record RunServed (t : Table) (left now held later : Option (List ℕ)) (given : List Given) (rest last unsent : List ℕ) : Type 0 where
   pub requests : List (List ℕ)
-  pub wanted : List Wanted
+  pub wanted : List Meaning
   pub sent : List ℕ
   pub each : AllZip (Wants t) requests wanted
   pub few : length given ≤ most_requests
   pub closing : GoOn wanted ⊎ AreClosing wanted
-  pub drawn : AllZip (λ (w : Wanted) (g : Given). AreWordsFor w.want g) wanted given
+  pub drawn : AllZip (λ (w : Meaning) (g : Given). AreWordsFor w.want g) wanted given
   pub consumed : Consumes left now (concat requests ++ rest)
   pub ahead : HasLastPiece rest
   pub text : alone_text (λ lock. []) wanted given ++ last ≡ sent ++ unsent
@@ -47,9 +47,9 @@ pub record EndsServed (t : Table) (gave : List Given → Type 0) (left now held 
   pub ahead : ReadsNoFurtherAt end rest
 
 -- The reply to the last request ends in what is unsent.
-pub record IsOfRunReply (wanted : List Wanted) (given : List Given) (unsent : List ℕ) : Type 0 where
-  pub earlier : List Wanted
-  pub request : Wanted
+pub record IsOfRunReply (wanted : List Meaning) (given : List Given) (unsent : List ℕ) : Type 0 where
+  pub earlier : List Meaning
+  pub request : Meaning
   pub before : List Given
   pub its : Given
   pub requests_are : wanted ≡ earlier ++ request ∷ []
@@ -101,13 +101,13 @@ pub record IsUntouched {C R : Type 0} (before after : C) (words words2 : R) (lef
   pub sink : later ≡ held
 
 -- the run served the requests for the table of the file
-pub record ServesFile {C R : Type 0} (clock : C → ℕ → C → Type 0) (draws : R → Result (List ℕ) Failed → R → Type 0) (before after : C) (words words2 : R) (left now held later : Option (List ℕ)) (files : Option Files) (asked : RunWords) (ending : Ending) : Type 0 where
+pub record ServesFile {C R : Type 0} (clock : C → ℕ → C → Type 0) (draws : R → Result (List ℕ) Failed → R → Type 0) (before after : C) (words words2 : R) (left now held later : Option (List ℕ)) (files : Option Files) (asked : RunArguments) (ending : Ending) : Type 0 where
   pub table : Table
   pub table_is : IsTableIn files asked.users table
   pub serves : RunServes table (GivenAre clock draws before after words words2 asked.moment) left now held later ending
 
 -- What a run took and wrote, by its words and its ending: nothing, until the table of users is read.
-abbrev pub Converses : {C R : Type 0} → (C → ℕ → C → Type 0) → (R → Result (List ℕ) Failed → R → Type 0) → C → C → R → R → Option (List ℕ) → Option (List ℕ) → Option (List ℕ) → Option (List ℕ) → Option Files → Option RunWords → Ending → Type 0
+abbrev pub Converses : {C R : Type 0} → (C → ℕ → C → Type 0) → (R → Result (List ℕ) Failed → R → Type 0) → C → C → R → R → Option (List ℕ) → Option (List ℕ) → Option (List ℕ) → Option (List ℕ) → Option Files → Option RunArguments → Ending → Type 0
 Converses clock draws before after words words2 left now held later files None ending = IsUntouched before after words words2 left now held later
 Converses clock draws before after words words2 left now held later files (Some asked) Done = ServesFile clock draws before after words words2 left now held later files asked Done
 Converses clock draws before after words words2 left now held later files (Some asked) DeviceFault = IsUntouched before after words words2 left now held later ⊎ ServesFile clock draws before after words words2 left now held later files asked DeviceFault

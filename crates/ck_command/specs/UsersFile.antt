@@ -3,7 +3,7 @@ use Rattle.std.specs.Prelude.{◌≡◌, ℕ, List, Option, None, Some, ⊤, opt
 use Rattle.std.specs.Result.{result_ok}
 use Rattle.ck_devices.specs.Files.{Files, file}
 use Rattle.http_front.specs.Users.{Table, table_of}
-use Rattle.ck_command.specs.Words.{RunWords}
+use Rattle.ck_command.specs.Arguments.{RunArguments}
 
 -- the table of users that the file of that name holds
 abbrev pub table_in : Files → List ℕ → Option Table
@@ -20,6 +20,6 @@ LacksUsers None name = ⊤
 LacksUsers (Some files) name = table_in files name ≡ None
 
 -- the words are right, and the file that they name is missing or holds no table of users
-abbrev pub AsksForNoTable : Files → Option RunWords → Type 0
+abbrev pub AsksForNoTable : Files → Option RunArguments → Type 0
 AsksForNoTable files None = ⊥
 AsksForNoTable files (Some asked) = table_in files asked.users ≡ None

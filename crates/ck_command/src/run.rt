@@ -2,14 +2,14 @@
 ghost use Rattle.std.specs.Prelude.{◌≡◌, ◌≤◌, ◌⊎◌, ◌↔◌, None, OnOk, IfOk, IfErr};
 ghost use Rattle.ck_devices.specs.Causes.{Rose};
 ghost use Rattle.talk_model.specs.Given.{Draws, GaveFor};
-ghost use Rattle.ck_command.specs.Words.{asked_of};
+ghost use Rattle.ck_command.specs.Arguments.{asked_of};
 ghost use Rattle.ck_command.specs.UsersFile.{HoldsUsers};
 ghost use Rattle.ck_command.specs.Endings.{ending_of, MayRefuse, MayServe, MayEnd};
 ghost use Rattle.ck_command.specs.Serving.{RunServes, IsTableIn, Converses};
 ghost use Rattle.ck_command.specs.Runs.{IsThreeAtNoTable, Ran};
 
+use crate::arguments::read_arguments;
 use crate::endings::Ending;
-use crate::words::read_words;
 use ck_base::Text;
 use ck_devices::{Clock, FixedClock, Shelf, ShelfFault, Sink, Source, Words};
 use ck_server::{End, TalkFaultKind, converse};
@@ -97,7 +97,7 @@ fn run<'a, F: Shelf, S: Source, W: Sink, C: Clock, R: Words>(
     ensures cause { result ≡ Ending.DeviceFault → Rose (F.fault_count shelf.old) (F.fault_count shelf.new)
         ⊎ (Rose (S.fault_count source.old) (S.fault_count source.new) ⊎ Rose (W.fault_count sink.old) (W.fault_count sink.new)) }
 {
-    let Some(asked) = read_words(args) else {
+    let Some(asked) = read_arguments(args) else {
         return Ending::WrongWords;
     };
     let users = match load_users(alloc, shelf, asked.users) {

@@ -22,15 +22,3 @@ impl Clock for FixedClock {
         self.0
     }
 }
-
-#[cfg(test)]
-mod tests {
-    use super::*;
-
-    #[test]
-    fn stands_at_its_moment(rt: HostRuntime) {
-        let mut clock = FixedClock(7);
-        assert_eq!(rt; clock.now(), 7);
-        assert_eq!(rt; clock.now(), 7);
-    }
-}

@@ -133,39 +133,3 @@ fn find_file<'a>(files: &'a [(Text, Bytes)], name: &str) -> Option<&'a [u8]>
     }
     None
 }
-
-#[cfg(test)]
-mod tests {
-    use super::*;
-    use std::alloc::Global;
-    use std::test::Fail;
-
-    fn named(alloc: Global, name: &str, bytes: &[u8]) -> Result<(Text, Bytes), AllocError> {
-        Ok((
-            Text::from_str(alloc, name)?,
-            Bytes::from_slice(alloc, bytes)?,
-        ))
-    }
-
-    #[test]
-    fn finds_the_first_of_a_name_and_fails_where_listed(rt: HostRuntime) -> Result<(), Fail> {
-        let alloc = rt.alloc();
-        let mut files = Vec::new(alloc);
-        files.push(named(alloc, "a", b"first")?)?;
-        files.push(named(alloc, "b", b"")?)?;
-        files.push(named(alloc, "a", b"second")?)?;
-        let mut shelf = MemShelf::new(files, vec![in alloc; 3]?);
-        let mut into = Vec::from_slice(alloc, b"old")?;
-        for (name, answer, bytes) in [
-            ("a", Ok(true), b"first".as_slice()),
-            ("c", Ok(false), b"".as_slice()),
-            ("a", Err(ShelfFault::Failed), b"".as_slice()),
-            ("b", Ok(true), b"".as_slice()),
-        ] {
-            assert_eq!(rt; shelf.read(name, &mut into), answer, "at {name}");
-            assert_eq!(rt; into.as_slice(), bytes, "at {name}");
-        }
-        assert_eq!(rt; shelf.faults(), 1);
-        Ok(())
-    }
-}

@@ -101,22 +101,3 @@ impl Sink for MemSink {
         }
     }
 }
-
-#[cfg(test)]
-mod tests {
-    use super::*;
-    use std::test::Fail;
-
-    #[test]
-    fn keeps_what_it_takes_and_fails_where_listed(rt: HostRuntime) -> Result<(), Fail> {
-        let fails = vec![in rt.alloc(); 1, 3]?;
-        let mut sink = MemSink::new(rt.alloc(), 3, fails);
-        assert_eq!(rt; sink.write(b"hello"), Err(Failed));
-        assert_eq!(rt; sink.write(b"hello"), Ok(3));
-        assert_eq!(rt; sink.write(b"lo"), Err(Failed));
-        assert_eq!(rt; sink.write(b"lo"), Ok(2));
-        assert_eq!(rt; sink.bytes(), b"hello".as_slice());
-        assert_eq!(rt; sink.faults(), 2);
-        Ok(())
-    }
-}

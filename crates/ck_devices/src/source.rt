@@ -105,28 +105,3 @@ fn copy_front(from: &[u8], into: &mut [u8], piece: usize) -> usize
     into[..count].copy_from_slice(&from[..count]);
     count
 }
-
-#[cfg(test)]
-mod tests {
-    use super::*;
-    use std::test::Fail;
-
-    #[test]
-    fn gives_its_bytes_in_pieces_and_fails_where_listed(rt: HostRuntime) -> Result<(), Fail> {
-        let bytes = Vec::from_slice(rt.alloc(), b"hello")?;
-        let fails = vec![in rt.alloc(); 2]?;
-        let mut source = MemSource::new(bytes, 2, fails);
-        let mut into = [0u8; 4];
-        let mut got = Vec::new(rt.alloc());
-        for want in [Ok(2), Err(Failed), Ok(2), Ok(1), Ok(0)] {
-            let answer = source.read(&mut into);
-            if let Ok(count) = answer {
-                got.extend_from_slice(&into[..count])?;
-            }
-            assert_eq!(rt; answer, want);
-        }
-        assert_eq!(rt; got.as_slice(), b"hello".as_slice());
-        assert_eq!(rt; source.faults(), 1);
-        Ok(())
-    }
-}

@@ -70,22 +70,3 @@ impl Words for CountWords {
         Ok(word)
     }
 }
-
-#[cfg(test)]
-mod tests {
-    use super::*;
-    use std::test::Fail;
-
-    #[test]
-    fn counts_up_past_the_last_word_and_fails_where_listed(rt: HostRuntime) -> Result<(), Fail> {
-        let fails = vec![in rt.alloc(); 2]?;
-        let mut words = CountWords::new(u128::MAX, fails);
-        let mut one = [0; 16];
-        one[15] = 1;
-        for want in [Ok([255; 16]), Err(Failed), Ok([0; 16]), Ok(one)] {
-            assert_eq!(rt; words.draw(), want);
-        }
-        assert_eq!(rt; words.faults(), 1);
-        Ok(())
-    }
-}

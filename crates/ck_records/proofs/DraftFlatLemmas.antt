@@ -5,21 +5,20 @@ use Rattle.std.specs.List.{AllByRecursion}
 use Rattle.serde_json.specs.Data.{Data, string, object, members_depth, items_depth}
 use Rattle.serde_json.specs.View.{items_of}
 use Rattle.serde_json.specs.Written.{items_have_float, members_have_float}
-use Rattle.field_values.specs.declared.value.Value.{Value}
-use Rattle.field_values.specs.Meant.{IsMeant}
+use Rattle.record_model.specs.declared.value.Value.{Value}
+use Rattle.record_model.specs.ValueForms.{IsMeant}
 use Rattle.field_values.proofs.ExactLemmas.{fields_flat}
 use Rattle.share_records.specs.declared.participant.Wanted.{Wanted}
-use Rattle.ck_records.specs.declared.draft.ParentWish.{ParentWish}
-use Rattle.ck_records.specs.declared.draft.ParentWish.TheVariants.{Absent, Null, To}
-use Rattle.ck_records.specs.declared.draft.ForRoot.{ForRoot}
-use Rattle.ck_records.specs.declared.draft.Draft.{Draft}
-use Rattle.ck_records.specs.DraftWriting.{wish_data, wishes_members, wishes_data, parent_data, root_data, wanted_data, wanted_list_data, public_data, draft_data}
+use Rattle.record_model.specs.declared.draft.ParentWish.{ParentWish}
+use Rattle.record_model.specs.declared.draft.ParentWish.TheVariants.{Absent, Null, To}
+use Rattle.record_model.specs.declared.draft.ForRoot.{ForRoot}
+use Rattle.record_model.specs.declared.draft.Draft.{Draft}
+use Rattle.ck_records.specs.DraftWriting.{wish_data, wishes_members, wishes_data, parent_data, root_data, wanted_data, wanted_list_data, public_data, draft_members, draft_data}
 use Rattle.ck_records.specs.Flat.{DraftsAreFlat}
-use Rattle.ck_records.specs.Meant.{IsWish, AreWishes, IsMeantDraft}
-use Rattle.ck_records.specs.Words.{permission_name}
+use Rattle.record_model.specs.DraftForms.{IsWish, AreWishes, IsMeantDraft}
+use Rattle.ck_records.specs.Spellings.{permission_name}
 use Rattle.ck_records.proofs.FlatLemmas.{Flat, present_flat, pairs_flat, map_flat, text_flat, named_flat}
 use Rattle.ck_records.proofs.LookupLemmas.{put_in_order}
-use Rattle.ck_records.proofs.ObjectLemmas.{Listed}
 
 abbrev Wish : Type 0
 Wish = List ℕ × Option Value
@@ -70,20 +69,7 @@ wanted_flat ws = record { whole = entries_whole ws; shallow = omega (arith, entr
 
 -- ---- the draft
 
--- the members of a draft's JSON
-abbrev table : Draft → Listed
-table d =
-    (codes "fields", wishes_data d.fields)
-    ∷ (codes "forRecord", option_map root_data d.for_root)
-    ∷ (codes "parent", parent_data d.parent)
-    ∷ (codes "participants", option_map wanted_list_data d.participants)
-    ∷ (codes "publicPermission", option_map public_data d.public)
-    ∷ (codes "recordChangeTag", option_map string d.tag)
-    ∷ (codes "recordName", option_map string d.name)
-    ∷ (codes "recordType", option_map string d.rtype)
-    ∷ []
-
-members_flat : (d : Draft) → IsMeantDraft d → AllByRecursion (λ (m : List ℕ × Option Data). IfSome m.1 (Flat 4)) (table d)
+members_flat : (d : Draft) → IsMeantDraft d → AllByRecursion (λ (m : List ℕ × Option Data). IfSome m.1 (Flat 4)) (draft_members d)
 members_flat d is = (
   wishes_flat d.fields is.fields,
   (
@@ -106,7 +92,7 @@ members_flat d is = (
 
 draft_flat : (d : Draft) → IsMeantDraft d → Flat 5 (draft_data d)
 draft_flat d is =
-    let flat = present_flat 4 (table d) (members_flat d is) in
+    let flat = present_flat 4 (draft_members d) (members_flat d is) in
     record { whole = flat.whole; shallow = omega (arith, flat.shallow) }
 
 pub drafts_flat : DraftsAreFlat

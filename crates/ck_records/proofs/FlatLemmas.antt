@@ -1,23 +1,23 @@
 -- The JSON of a record tells it exactly by its text.
 use Rattle.std.proofs.Common.{◌≡◌, ℕ, ◌≤◌, Bool, false, List, [], ◌∷◌, map, decimal, Option, None, Some, option_map, refl, ap, ◌∙◌, arith}
-use Rattle.std.specs.Prelude.{codes, IfSome}
+use Rattle.std.specs.Prelude.{IfSome}
 use Rattle.std.specs.List.{AllByRecursion}
 use Rattle.std.proofs.lemmas.Bool.{or_from}
 use Rattle.serde_json.specs.Data.{Data, Members, string, object, depth, items_depth, members_depth}
 use Rattle.serde_json.specs.View.{items_of}
 use Rattle.serde_json.specs.Written.{has_float, items_have_float, members_have_float}
-use Rattle.field_values.specs.declared.value.Value.{Value}
+use Rattle.record_model.specs.declared.value.Value.{Value}
 use Rattle.field_values.specs.Exact.{IsExact}
 use Rattle.field_values.specs.Writing.{field_data}
 use Rattle.field_values.proofs.ExactLemmas.{fields_flat}
 use Rattle.share_records.specs.declared.share.Share.{Share as ShareOf}
 use Rattle.share_records.specs.declared.permission.Permission.{Permission}
 use Rattle.share_records.specs.declared.participant.Participant.{Participant}
-use Rattle.ck_records.specs.declared.records.Record.{Record}
+use Rattle.record_model.specs.declared.records.Record.{Record}
 use Rattle.ck_records.specs.Objects.{present}
-use Rattle.ck_records.specs.Words.{permission_name}
-use Rattle.ck_records.specs.Writing.{stamp_data, named_data, fields_members, participant_data, participants_data, share_in, record_data}
-use Rattle.ck_records.specs.Stored.{IsField, AreFields, IsStored}
+use Rattle.ck_records.specs.Spellings.{permission_name}
+use Rattle.ck_records.specs.Writing.{named_data, fields_members, participant_data, participants_data, share_in, record_members, record_data}
+use Rattle.record_model.specs.RecordForms.{IsField, AreFields, IsStored}
 use Rattle.ck_records.specs.Flat.{RecordsAreFlat}
 use Rattle.ck_records.proofs.ObjectLemmas.{Listed}
 use Rattle.ck_records.proofs.LookupLemmas.{Pairs, members_at, put_in_order}
@@ -84,25 +84,8 @@ named_flat name = record { whole = refl; shallow = omega arith }
 
 -- ---- the record
 
--- the members of a record's JSON
-abbrev pub table : List ℕ → Bool → Record → Listed
-table owner as_text r =
-    (codes "created", Some (stamp_data r.created))
-    ∷ (codes "fields", Some (object (fields_members as_text r.fields)))
-    ∷ (codes "forRecord", option_map (λ (s : ShareOf). named_data s.root) (share_in r.body))
-    ∷ (codes "modified", Some (stamp_data r.modified))
-    ∷ (codes "parent", option_map named_data r.parent)
-    ∷ (codes "participants", option_map (participants_data owner) (share_in r.body))
-    ∷ (codes "publicPermission", option_map (λ (s : ShareOf). string (permission_name s.public)) (share_in r.body))
-    ∷ (codes "recordChangeTag", Some (string (decimal r.tag)))
-    ∷ (codes "recordName", Some (string r.name))
-    ∷ (codes "recordType", Some (string r.rtype))
-    ∷ (codes "share", option_map named_data r.share)
-    ∷ (codes "shortGUID", option_map (λ (s : ShareOf). string s.guid) (share_in r.body))
-    ∷ []
-
 module _ (owner : List ℕ) (as_text : Bool) (r : Record) (is : IsStored r) where
-  members_flat : AllByRecursion (λ (m : List ℕ × Option Data). IfSome m.1 (Flat 4)) (table owner as_text r)
+  members_flat : AllByRecursion (λ (m : List ℕ × Option Data). IfSome m.1 (Flat 4)) (record_members owner as_text r)
   members_flat = (
     record { whole = refl; shallow = omega arith },
     (
@@ -143,7 +126,7 @@ module _ (owner : List ℕ) (as_text : Bool) (r : Record) (is : IsStored r) wher
 
   pub record_flat : Flat 5 (record_data owner as_text r)
   record_flat =
-      let flat = present_flat 4 (table owner as_text r) members_flat in
+      let flat = present_flat 4 (record_members owner as_text r) members_flat in
       record { whole = flat.whole; shallow = omega (arith, flat.shallow) }
 
   pub record_exact : IsExact (record_data owner as_text r)

@@ -1,12 +1,12 @@
 -- Objects some of whose members may be missing.
-use Rattle.std.proofs.Common.{◌≡◌, ℕ, List, [], ◌∷◌, Bool, true, Option, None, Some, Ordering, Less, Equal, Greater, nat_cmp, refl, ap, ◌∙◌}
+use Rattle.std.proofs.Common.{◌≡◌, ℕ, List, [], ◌∷◌, Bool, true, ◌&&◌, Option, None, Some, Ordering, Less, Equal, Greater, nat_cmp, refl, ap, ◌∙◌}
 use Rattle.std.proofs.lemmas.Bool.{and_parts}
 use Rattle.std.specs.Cmp.Lexicographic.{slice_cmp}
 use Rattle.std.specs.List.{list_all}
 use Rattle.std.specs.Ordering.{is_lt}
-use Rattle.serde_json.specs.Data.{Data, Members, member, put}
+use Rattle.serde_json.specs.Data.{Data, no_members, member, put}
 use Rattle.ck_base.specs.Order.{is_before}
-use Rattle.ck_records.specs.Objects.{present, put_some}
+use Rattle.ck_records.specs.Objects.{present, put_some, put_all}
 
 abbrev pub Listed : Type 0
 Listed = List (List ℕ × Option Data)
@@ -26,17 +26,18 @@ put_first name d ((l, None) ∷ ms) first = put_first name d ms (and_parts (is_b
 put_first name d ((l, Some e) ∷ ms) first = rw (is_less (slice_cmp nat_cmp name l) (and_parts (is_before name l) _ first).0) refl
 
 -- a member before all others is put in front
-pub put_front : (name : List ℕ) (o : Option Data) (ms : Listed) → is_first name ms ≡ true → put_some name o (present ms) ≡ present ((name, o) ∷ ms)
+put_front : (name : List ℕ) (o : Option Data) (ms : Listed) → is_first name ms ≡ true → put_some name o (present ms) ≡ present ((name, o) ∷ ms)
 put_front name None ms first = refl
 put_front name (Some d) ms first = put_first name d ms first
 
--- the members are those of the list that are there
-pub record IsPresent (members : Members) (ms : Listed) : Type 0 where
-  pub is : members ≡ present ms
+-- each name stands before those of all later members
+abbrev are_in_order : Listed → Bool
+are_in_order [] = true
+are_in_order ((name, o) ∷ ms) = is_first name ms && are_in_order ms
 
--- a member before all others was put in front
-pub front_of : {now before : Members} {given : Option Data} {ms : Listed} (name : List ℕ) (o : Option Data) → IsPresent before ms → is_first name ms ≡ true
-    → now ≡ put_some name given before → given ≡ o → IsPresent now ((name, o) ∷ ms)
-front_of {before = earlier} {ms = ms} name o was first put is = record {
-  is = put ∙ ap (λ g. put_some name g earlier) is ∙ ap (put_some name o) was.is ∙ put_front name o ms first;
-}
+-- members in order that are put into an empty object stand as they are listed
+pub put_in_place : (ms : Listed) → are_in_order ms ≡ true → put_all ms no_members ≡ present ms
+put_in_place [] ordered = refl
+put_in_place ((name, o) ∷ ms) ordered =
+    let parts = and_parts (is_first name ms) _ ordered in
+    ap (put_some name o) (put_in_place ms parts.1) ∙ put_front name o ms parts.0

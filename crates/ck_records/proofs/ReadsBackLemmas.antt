@@ -7,9 +7,9 @@ use Rattle.serde_json.specs.Data.{Data, string}
 use Rattle.ck_base.specs.Names.{IsName}
 use Rattle.ck_base.specs.Reading.{name_of}
 use Rattle.ck_base.specs.declared.key.ZoneKey.{ZoneKey}
-use Rattle.field_values.specs.declared.value.Value.{Value}
+use Rattle.record_model.specs.declared.value.Value.{Value}
 use Rattle.field_values.specs.Members.{unless_null, found}
-use Rattle.field_values.specs.Meant.{IsMeant}
+use Rattle.record_model.specs.ValueForms.{IsMeant}
 use Rattle.field_values.specs.Reading.{field_of}
 use Rattle.field_values.specs.Results.{each_or_first_error}
 use Rattle.field_values.proofs.ListLemmas.{elements_items}
@@ -17,20 +17,20 @@ use Rattle.field_values.proofs.ReadsBackLemmas.{reads_back}
 use Rattle.share_records.specs.declared.permission.Permission.{Permission}
 use Rattle.share_records.specs.declared.participant.PartKind.{PartKind}
 use Rattle.share_records.specs.declared.participant.Wanted.{Wanted}
-use Rattle.ck_records.specs.declared.draft.ParentWish.{ParentWish}
-use Rattle.ck_records.specs.declared.draft.ParentWish.TheVariants.{Absent, Null, To}
-use Rattle.ck_records.specs.declared.draft.ForRoot.{ForRoot}
-use Rattle.ck_records.specs.declared.draft.Draft.{Draft}
+use Rattle.record_model.specs.declared.draft.ParentWish.{ParentWish}
+use Rattle.record_model.specs.declared.draft.ParentWish.TheVariants.{Absent, Null, To}
+use Rattle.record_model.specs.declared.draft.ForRoot.{ForRoot}
+use Rattle.record_model.specs.declared.draft.Draft.{Draft}
 use Rattle.ck_records.specs.declared.fault.RecordKey.{RecordKey}
 use Rattle.ck_records.specs.declared.fault.RecordKey.TheVariants.{RecordName, RecordType}
 use Rattle.ck_records.specs.declared.fault.RecordFault.{RecordFault}
-use Rattle.ck_records.specs.Participants.{may_have, entry_of, entries_of, participants_at}
+use Rattle.record_model.specs.DraftForms.{may_have}
+use Rattle.ck_records.specs.Participants.{entry_of, entries_of, participants_at}
 use Rattle.ck_records.specs.DraftFields.{entries, is_named, wish_of, wishes_in, fields_at}
 use Rattle.ck_records.specs.Reading.{name_at, tag_at, parent_at, root_at, public_at, draft_from}
-use Rattle.ck_records.specs.DraftWriting.{wish_data, wishes_members, wishes_data, parent_data, root_data, wanted_data, wanted_list_data, public_data, draft_data}
-use Rattle.ck_records.specs.Meant.{IsParentWish, IsForRoot, IsWanted, IsWish, AreWishes}
+use Rattle.ck_records.specs.DraftWriting.{wish_data, wishes_members, wishes_data, parent_data, root_data, wanted_data, wanted_list_data, public_data, draft_members, draft_data}
+use Rattle.record_model.specs.DraftForms.{IsParentWish, IsForRoot, IsWanted, IsWish, AreWishes}
 use Rattle.ck_records.specs.RoundTrip.{DraftsReadBack}
-use Rattle.ck_records.proofs.ObjectLemmas.{Listed}
 use Rattle.ck_records.proofs.LookupLemmas.{listed, get_present, entries_at, put_in_order}
 
 -- a name is told as itself
@@ -128,28 +128,15 @@ draft_from-all : (a b c : Result (Option (List ℕ)) RecordFault) (p : Result Pa
     → draft_from a b c p f q l w ≡ Ok d
 draft_from-all a b c p f q l w d ea eb ec ep ef eq el ew = rw (ea, eb, ec, ep, ef, eq, el, ew) refl
 
--- the members of a draft's JSON
-abbrev table : Draft → Listed
-table d =
-    (codes "fields", wishes_data d.fields)
-    ∷ (codes "forRecord", option_map root_data d.for_root)
-    ∷ (codes "parent", parent_data d.parent)
-    ∷ (codes "participants", option_map wanted_list_data d.participants)
-    ∷ (codes "publicPermission", option_map public_data d.public)
-    ∷ (codes "recordChangeTag", option_map string d.tag)
-    ∷ (codes "recordName", option_map string d.name)
-    ∷ (codes "recordType", option_map string d.rtype)
-    ∷ []
-
-found_in : (d : Draft) (k : List ℕ) → found k (draft_data d) ≡ there (listed k (table d))
-found_in d k = ap there (get_present k (table d) refl)
+found_in : (d : Draft) (k : List ℕ) → found k (draft_data d) ≡ there (listed k (draft_members d))
+found_in d k = ap there (get_present k (draft_members d) refl)
 
 pub drafts_read_back : DraftsReadBack
 drafts_read_back here caller d meant = draft_from-all _ _ _ _ _ _ _ _ d
     (ap (name_at RecordName) (found_in d (codes "recordName")) ∙ name_reads RecordName d.name meant.name)
     (ap (name_at RecordType) (found_in d (codes "recordType")) ∙ name_reads RecordType d.rtype meant.rtype)
     (ap tag_at (found_in d (codes "recordChangeTag")) ∙ tag_reads d.tag)
-    (ap parent_at (get_present (codes "parent") (table d) refl) ∙ parent_reads d.parent meant.parent)
+    (ap parent_at (get_present (codes "parent") (draft_members d) refl) ∙ parent_reads d.parent meant.parent)
     (ap root_at (found_in d (codes "forRecord")) ∙ roots_read d.for_root meant.root)
     (ap public_at (found_in d (codes "publicPermission")) ∙ public_reads d.public)
     (ap participants_at (found_in d (codes "participants")) ∙ participants_read d.participants meant.participants)

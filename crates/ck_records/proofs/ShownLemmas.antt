@@ -5,12 +5,12 @@ use Rattle.std.specs.List.{AllByRecursion, list_all}
 use Rattle.std.proofs.lemmas.Bool.{and_parts}
 use Rattle.ck_base.specs.Order.{are_ascending}
 use Rattle.ck_base.specs.Told.{IsToldUnless}
-use Rattle.field_values.specs.declared.value.Value.{Value}
+use Rattle.record_model.specs.declared.value.Value.{Value}
 use Rattle.field_values.specs.Results.{result_map, result_and_then}
 use Rattle.share_records.specs.declared.participant.Participant.{Participant}
 use Rattle.ck_records.specs.declared.fault.ReplyRecordFault.{ReplyRecordFault}
-use Rattle.ck_records.specs.Meant.{IsWish, AreWishes}
-use Rattle.ck_records.specs.Stored.{IsField, AreFields, keeps, IsParticipant, AreParticipants}
+use Rattle.record_model.specs.DraftForms.{IsWish, AreWishes}
+use Rattle.record_model.specs.RecordForms.{IsField, AreFields, keeps, IsParticipant, AreParticipants}
 use Rattle.ck_records.specs.Shown.{with_value, with_values, HasUser, are_kept}
 
 -- what holds of what is told holds of the answer

@@ -7,7 +7,7 @@ use Rattle.ck_base.specs.Names.{IsName}
 use Rattle.ck_base.specs.Guids.{IsGuid}
 use Rattle.ck_base.specs.declared.key.ZoneKey.{ZoneKey}
 use Rattle.ck_base.proofs.NumberLemmas.{number-decimal}
-use Rattle.field_values.specs.declared.value.Value.{Value}
+use Rattle.record_model.specs.declared.value.Value.{Value}
 use Rattle.field_values.specs.Members.{found}
 use Rattle.field_values.specs.Writing.{field_data}
 use Rattle.field_values.specs.Results.{each_or_first_error}
@@ -17,18 +17,17 @@ use Rattle.share_records.specs.declared.permission.Permission.{Permission}
 use Rattle.share_records.specs.declared.participant.PartKind.{PartKind}
 use Rattle.share_records.specs.declared.participant.Participant.{Participant}
 use Rattle.share_records.specs.declared.share.Share.{Share as ShareOf}
-use Rattle.ck_records.specs.declared.records.Stamp.{Stamp}
-use Rattle.ck_records.specs.declared.records.Body.{Body}
-use Rattle.ck_records.specs.declared.records.Body.TheVariants.{Plain, Share}
-use Rattle.ck_records.specs.declared.records.Record.{Record}
+use Rattle.record_model.specs.declared.records.Stamp.{Stamp}
+use Rattle.record_model.specs.declared.records.Body.{Body}
+use Rattle.record_model.specs.declared.records.Body.TheVariants.{Plain, Share}
+use Rattle.record_model.specs.declared.records.Record.{Record}
 use Rattle.ck_records.specs.declared.fault.ReplyRecordFault.{ReplyRecordFault}
 use Rattle.ck_records.specs.DraftFields.{entries, is_named, wish_of}
-use Rattle.ck_records.specs.Words.{permission_name}
-use Rattle.ck_records.specs.Writing.{stamp_data, named_data, fields_members, participant_data, participants_data, share_in, record_data}
-use Rattle.ck_records.specs.Stored.{IsStamp, IsField, AreFields, is_kept, IsParticipant, IsShare, IsBodyOf, IsStored}
+use Rattle.ck_records.specs.Spellings.{permission_name}
+use Rattle.ck_records.specs.Writing.{stamp_data, named_data, fields_members, participant_data, participants_data, share_in, record_members, record_data}
+use Rattle.record_model.specs.RecordForms.{IsStamp, IsField, AreFields, is_kept, IsParticipant, IsShare, IsBodyOf, IsStored}
 use Rattle.ck_records.specs.Replied.{IsReplyOf, RecordsReadBack}
 use Rattle.ck_records.specs.Shown.{name_shown, link_shown, tag_shown, stamp_shown, with_values, fields_shown, entry_shown, entries_shown, participants_shown, root_shown, guid_shown, public_shown, share_from, share_shown, body_shown, both, plain_from, with_body, record_shown}
-use Rattle.ck_records.proofs.FlatLemmas.{table}
 use Rattle.ck_records.proofs.LookupLemmas.{listed, get_present, entries_at, put_in_order}
 use Rattle.ck_records.proofs.ReadsBackLemmas.{name_told, there}
 
@@ -122,8 +121,8 @@ share_from-all root guid public participants s er eg ep el = rw (er, eg, ep, el)
 -- ---- the record
 
 module _ (owner : List ℕ) (as_text : Bool) where
-  found_in : (r : Record) (k : List ℕ) → found k (record_data owner as_text r) ≡ there (listed k (table owner as_text r))
-  found_in r k = ap there (get_present k (table owner as_text r) refl)
+  found_in : (r : Record) (k : List ℕ) → found k (record_data owner as_text r) ≡ there (listed k (record_members owner as_text r))
+  found_in r k = ap there (get_present k (record_members owner as_text r) refl)
 
   share_shows : (r : Record) (s : ShareOf) → share_in r.body ≡ Some s → IsShare s → share_shown (record_data owner as_text r) ≡ Ok s
   share_shows r s in_body is = share_from-all _ _ _ _ s

@@ -8,13 +8,13 @@ use Rattle.ck_base.specs.Told.{IsToldUnless}
 use Rattle.ck_base.specs.declared.key.ZoneKey.{ZoneKey}
 use Rattle.field_values.specs.Exact.{IsExact}
 use Rattle.share_records.specs.declared.participant.Participant.{Participant}
-use Rattle.ck_records.specs.declared.records.Body.{Body}
-use Rattle.ck_records.specs.declared.records.Body.TheVariants.{Plain, Share}
-use Rattle.ck_records.specs.declared.records.Record.{Record}
+use Rattle.record_model.specs.declared.records.Body.{Body}
+use Rattle.record_model.specs.declared.records.Body.TheVariants.{Plain, Share}
+use Rattle.record_model.specs.declared.records.Record.{Record}
 use Rattle.ck_records.specs.declared.fault.ReplyRecordFault.{ReplyRecordFault}
 use Rattle.ck_records.specs.declared.fault.ReplyRecordFault.TheVariants.{NotARecord, NoMemory}
 use Rattle.ck_records.specs.Writing.{record_data}
-use Rattle.ck_records.specs.Stored.{keeps, IsParticipant, IsBodyOf, IsStored}
+use Rattle.record_model.specs.RecordForms.{keeps, IsParticipant, IsBodyOf, IsStored}
 use Rattle.ck_records.specs.Replied.{IsReplyOf}
 use Rattle.ck_records.specs.Shown.{record_shown, body_in_form, is_in_form}
 use Rattle.ck_records.proofs.FlatLemmas.{record_exact}

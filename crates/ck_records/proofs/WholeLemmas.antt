@@ -7,17 +7,17 @@ use Rattle.std.specs.Cmp.Lexicographic.{slice_cmp}
 use Rattle.std.proofs.lemmas.Bool.{or_from, or_parts}
 use Rattle.serde_json.specs.Data.{Data, Members, no_members, member, put, string}
 use Rattle.serde_json.specs.Written.{has_float, members_have_float}
-use Rattle.field_values.specs.declared.value.Value.{Value}
+use Rattle.record_model.specs.declared.value.Value.{Value}
 use Rattle.field_values.specs.Writing.{field_data}
 use Rattle.field_values.proofs.ExactLemmas.{fields_flat}
 use Rattle.share_records.specs.declared.share.Share.{Share as ShareOf}
-use Rattle.ck_records.specs.declared.records.Record.{Record}
+use Rattle.record_model.specs.declared.records.Record.{Record}
 use Rattle.ck_records.specs.Objects.{present}
-use Rattle.ck_records.specs.Words.{permission_name}
-use Rattle.ck_records.specs.Writing.{named_data, participants_data, share_in}
+use Rattle.ck_records.specs.Spellings.{permission_name}
+use Rattle.ck_records.specs.Writing.{named_data, participants_data, share_in, record_members}
 use Rattle.ck_records.specs.Flat.{RecordsHaveNoFloat}
 use Rattle.ck_records.proofs.ObjectLemmas.{Listed}
-use Rattle.ck_records.proofs.FlatLemmas.{table, participants_whole}
+use Rattle.ck_records.proofs.FlatLemmas.{participants_whole}
 
 -- a member that is put brings none, wherever it stands
 put_by : (o : Ordering) (k l : List ℕ) (d e : Data) (ms : Members) → has_float d ≡ false → members_have_float (member l e ms) ≡ false → members_have_float (put k d ms) ≡ false
@@ -44,7 +44,7 @@ map_whole : {A : Type 0} (f : A → Data) (o : Option A) → ((x : A) → has_fl
 map_whole f None each = tt
 map_whole f (Some x) each = each x
 
-members_whole : (owner : List ℕ) (as_text : Bool) (r : Record) → AllByRecursion (λ (m : List ℕ × Option Data). IfSome m.1 (λ d. has_float d ≡ false)) (table owner as_text r)
+members_whole : (owner : List ℕ) (as_text : Bool) (r : Record) → AllByRecursion (λ (m : List ℕ × Option Data). IfSome m.1 (λ d. has_float d ≡ false)) (record_members owner as_text r)
 members_whole owner as_text r = (
   refl,
   (
@@ -69,4 +69,4 @@ members_whole owner as_text r = (
 )
 
 pub records_whole : RecordsHaveNoFloat
-records_whole owner as_text r = present_whole (table owner as_text r) (members_whole owner as_text r)
+records_whole owner as_text r = present_whole (record_members owner as_text r) (members_whole owner as_text r)

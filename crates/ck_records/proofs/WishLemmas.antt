@@ -17,7 +17,7 @@ use Rattle.ck_base.specs.declared.name.NameFault.{NameFault}
 use Rattle.ck_base.specs.declared.name.NameFault.TheVariants.{Empty, TooLong}
 use Rattle.ck_base.specs.declared.key.ZoneKey.{ZoneKey}
 use Rattle.field_values.specs.declared.fault.FieldFault.{FieldFault}
-use Rattle.field_values.specs.declared.value.Value.{Value}
+use Rattle.record_model.specs.declared.value.Value.{Value}
 use Rattle.field_values.specs.Reading.{field_of}
 use Rattle.field_values.specs.Results.{result_map, result_and_then, each_or_first_error}
 use Rattle.ck_records.specs.declared.fault.RecordFault.{RecordFault}

@@ -6,7 +6,7 @@ use Rattle.serde_json.specs.Data.{Data, Members, no_members, member}
 use Rattle.serde_json.specs.Find.{as_object}
 use Rattle.ck_base.specs.Reading.{name_of}
 use Rattle.ck_base.specs.declared.key.ZoneKey.{ZoneKey}
-use Rattle.field_values.specs.declared.value.Value.{Value}
+use Rattle.record_model.specs.declared.value.Value.{Value}
 use Rattle.field_values.specs.declared.fault.FieldFault.{FieldFault}
 use Rattle.field_values.specs.Reading.{field_of}
 use Rattle.field_values.specs.Results.{each_or_first_error}

@@ -2,11 +2,11 @@
 use Rattle.std.specs.Prelude.{◌≡◌, ◌≤◌, ℕ, Bool, false, List}
 use Rattle.serde_json.specs.Data.{depth}
 use Rattle.serde_json.specs.Written.{has_float}
-use Rattle.ck_records.specs.declared.draft.Draft.{Draft}
-use Rattle.ck_records.specs.declared.records.Record.{Record}
+use Rattle.record_model.specs.declared.draft.Draft.{Draft}
+use Rattle.record_model.specs.declared.records.Record.{Record}
 use Rattle.ck_records.specs.DraftWriting.{draft_data}
-use Rattle.ck_records.specs.Meant.{IsMeantDraft}
-use Rattle.ck_records.specs.Stored.{IsStored}
+use Rattle.record_model.specs.DraftForms.{IsMeantDraft}
+use Rattle.record_model.specs.RecordForms.{IsStored}
 use Rattle.ck_records.specs.Writing.{record_data}
 
 -- the JSON of a record in the form in which a zone keeps it has no float, and nests at most five deep

@@ -16,3 +16,8 @@ object_of ms = object (present ms)
 abbrev pub put_some : List ℕ → Option Data → Members → Members
 put_some name None ms = ms
 put_some name (Some d) ms = put name d ms
+
+-- with each of the members in its place by name, put from the last to the first
+abbrev pub put_all : List (List ℕ × Option Data) → Members → Members
+put_all [] ms = ms
+put_all ((name, o) ∷ rows) ms = put_some name o (put_all rows ms)

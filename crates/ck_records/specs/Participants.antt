@@ -9,12 +9,13 @@ use Rattle.field_values.specs.Results.{result_map}
 use Rattle.share_records.specs.declared.permission.Permission.{Permission}
 use Rattle.share_records.specs.declared.participant.PartKind.{PartKind}
 use Rattle.share_records.specs.declared.participant.Wanted.{Wanted}
-use Rattle.ck_records.specs.declared.words.EntryType.{EntryType}
-use Rattle.ck_records.specs.declared.words.EntryType.TheVariants.{Owner, Listed}
+use Rattle.record_model.specs.DraftForms.{may_have}
+use Rattle.ck_records.specs.declared.spellings.EntryType.{EntryType}
+use Rattle.ck_records.specs.declared.spellings.EntryType.TheVariants.{Owner, Listed}
 use Rattle.ck_records.specs.declared.fault.RecordFault.{RecordFault}
 use Rattle.ck_records.specs.declared.fault.RecordFault.TheVariants.{BadKey}
 use Rattle.ck_records.specs.declared.fault.RecordKey.TheVariants.{Participants}
-use Rattle.ck_records.specs.Words.{permission_named, type_named}
+use Rattle.ck_records.specs.Spellings.{permission_named, type_named}
 use Rattle.ck_records.specs.Sequence.{each_found}
 
 -- whom an entry is for, a user of the owner's choice where it has no type
@@ -26,13 +27,6 @@ type_in (Some d) = option_and_then type_named (as_str d)
 abbrev pub permission_in : Option Data → Option Permission
 permission_in None = Some Permission.ReadOnly
 permission_in (Some d) = option_and_then permission_named (as_str d)
-
--- a user of the owner's choice may do something at least
-abbrev pub may_have : PartKind → Permission → Bool
-may_have PartKind.Member Permission.Nothing = false
-may_have PartKind.Member Permission.ReadOnly = true
-may_have PartKind.Member Permission.ReadWrite = true
-may_have PartKind.Public permission = true
 
 -- the JSON of the user's name
 abbrev pub user_data : Data → Option Data

@@ -5,21 +5,21 @@ use Rattle.std.specs.Prelude.{ℕ, Bool, if◌then◌else◌, List, codes, Optio
 use Rattle.serde_json.specs.Data.{Data}
 use Rattle.serde_json.specs.Find.{get, as_str, as_object}
 use Rattle.ck_base.specs.declared.key.ZoneKey.{ZoneKey}
-use Rattle.field_values.specs.declared.value.Value.{Value}
+use Rattle.record_model.specs.declared.value.Value.{Value}
 use Rattle.field_values.specs.Members.{unless_null, found}
 use Rattle.field_values.specs.References.{name_in}
 use Rattle.field_values.specs.Results.{result_map}
 use Rattle.share_records.specs.declared.permission.Permission.{Permission}
 use Rattle.share_records.specs.declared.participant.Wanted.{Wanted}
-use Rattle.ck_records.specs.declared.draft.ParentWish.{ParentWish}
-use Rattle.ck_records.specs.declared.draft.ParentWish.TheVariants.{Absent, Null, To}
-use Rattle.ck_records.specs.declared.draft.ForRoot.{ForRoot}
-use Rattle.ck_records.specs.declared.draft.Draft.{Draft}
+use Rattle.record_model.specs.declared.draft.ParentWish.{ParentWish}
+use Rattle.record_model.specs.declared.draft.ParentWish.TheVariants.{Absent, Null, To}
+use Rattle.record_model.specs.declared.draft.ForRoot.{ForRoot}
+use Rattle.record_model.specs.declared.draft.Draft.{Draft}
 use Rattle.ck_records.specs.declared.fault.RecordKey.{RecordKey}
 use Rattle.ck_records.specs.declared.fault.RecordKey.TheVariants.{RecordName, RecordType, RecordChangeTag, Parent, ForRecord, PublicPermission}
 use Rattle.ck_records.specs.declared.fault.RecordFault.{RecordFault}
 use Rattle.ck_records.specs.declared.fault.RecordFault.TheVariants.{NotARecord, BadKey}
-use Rattle.ck_records.specs.Words.{permission_named}
+use Rattle.ck_records.specs.Spellings.{permission_named}
 use Rattle.ck_records.specs.Participants.{participants_at}
 use Rattle.ck_records.specs.DraftFields.{fields_at}
 use Rattle.ck_records.specs.Sequence.{◌>>=◌}

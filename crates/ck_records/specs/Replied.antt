@@ -1,9 +1,9 @@
 -- Which record the JSON in a reply is.
 use Rattle.std.specs.Prelude.{◌≡◌, ℕ, Bool, List}
 use Rattle.serde_json.specs.Data.{Data}
-use Rattle.ck_records.specs.declared.records.Record.{Record}
+use Rattle.record_model.specs.declared.records.Record.{Record}
 use Rattle.ck_records.specs.Writing.{record_data}
-use Rattle.ck_records.specs.Stored.{IsStored}
+use Rattle.record_model.specs.RecordForms.{IsStored}
 
 -- it is what is written for the record, which has its form, in a zone of the owner
 pub record IsReplyOf (owner : List ℕ) (as_text : Bool) (d : Data) (r : Record) : Type 0 where

@@ -11,7 +11,7 @@ use Rattle.ck_base.specs.Guids.{guid_of}
 use Rattle.ck_base.specs.Numbers.{number_of}
 use Rattle.ck_base.specs.Order.{are_ascending}
 use Rattle.ck_base.specs.declared.key.ZoneKey.{ZoneKey}
-use Rattle.field_values.specs.declared.value.Value.{Value}
+use Rattle.record_model.specs.declared.value.Value.{Value}
 use Rattle.field_values.specs.Members.{found, elements}
 use Rattle.field_values.specs.References.{name_in}
 use Rattle.field_values.specs.Results.{result_map, each_or_first_error}
@@ -20,17 +20,17 @@ use Rattle.share_records.specs.declared.participant.PartKind.{PartKind}
 use Rattle.share_records.specs.declared.participant.Participant.{Participant}
 use Rattle.share_records.specs.declared.participant.Wanted.{Wanted}
 use Rattle.share_records.specs.declared.share.Share.{Share as ShareOf}
-use Rattle.ck_records.specs.declared.records.Stamp.{Stamp}
-use Rattle.ck_records.specs.declared.records.Body.{Body}
-use Rattle.ck_records.specs.declared.records.Body.TheVariants.{Plain, Share}
-use Rattle.ck_records.specs.declared.records.Record.{Record}
+use Rattle.record_model.specs.declared.records.Stamp.{Stamp}
+use Rattle.record_model.specs.declared.records.Body.{Body}
+use Rattle.record_model.specs.declared.records.Body.TheVariants.{Plain, Share}
+use Rattle.record_model.specs.declared.records.Record.{Record}
 use Rattle.ck_records.specs.declared.fault.RecordFault.{RecordFault}
 use Rattle.ck_records.specs.declared.fault.ReplyRecordFault.{ReplyRecordFault}
 use Rattle.ck_records.specs.declared.fault.ReplyRecordFault.TheVariants.{NotARecord}
-use Rattle.ck_records.specs.Words.{permission_named}
+use Rattle.ck_records.specs.Spellings.{permission_named}
 use Rattle.ck_records.specs.Participants.{entry_of}
 use Rattle.ck_records.specs.DraftFields.{fields_at}
-use Rattle.ck_records.specs.Stored.{is_share_type, keeps, IsBodyOf, IsStored}
+use Rattle.record_model.specs.RecordForms.{is_share_type, keeps, IsBodyOf, IsStored}
 use Rattle.ck_records.specs.Sequence.{◌>>=◌, each_found}
 
 -- what has to be there

@@ -6,7 +6,7 @@ ghost use Rattle.serde_json.specs.Find.{as_object};
 ghost use Rattle.ck_base.specs.Told.{IsToldUnless};
 ghost use Rattle.field_values.specs.Results.{each_or_first_error};
 ghost use Rattle.ck_records.specs.DraftFields.{entries, is_named, wish_of, wishes_in, fields_at};
-ghost use Rattle.ck_records.specs.Meant.{IsWish, AreWishes};
+ghost use Rattle.record_model.specs.DraftForms.{IsWish, AreWishes};
 
 use crate::{RecordFault, RecordKey, Wish, Wishes};
 use ck_base::{Items, NoMemory, RecordName, UserName, ZoneKey};

@@ -1,12 +1,13 @@
 // The JSON of a draft.
-ghost use Rattle.std.specs.Prelude.{◌≡◌, IfOk, map, option_map};
+ghost use Rattle.std.specs.Prelude.{◌≡◌, IfOk, OnOk, map, option_map};
 ghost use Rattle.serde_json.specs.Data.{string, object};
-ghost use Rattle.serde_json.specs.View.{view};
-ghost use Rattle.ck_records.specs.DraftWriting.{wish_data, wishes_members, wishes_data, parent_data, root_data, wanted_data, wanted_list_data, public_data, draft_data};
+ghost use Rattle.serde_json.specs.View.{view, members_view};
+ghost use Rattle.ck_records.specs.Objects.{put_all};
+ghost use Rattle.ck_records.specs.DraftWriting.{wish_data, wishes_members, wishes_data, parent_data, root_data, wanted_data, wanted_list_data, public_data, first_members, last_members, draft_data};
 
-use crate::members::put_some;
-use crate::words::{kind_name, permission_name};
-use crate::write::{name_json, user_json};
+use crate::members::{put_some, text_object};
+use crate::spellings::{kind_name, permission_name};
+use crate::write::{name_json, put_wanted};
 use crate::{Draft, ForRoot, ParentWish, WantedList, Wish};
 use ck_base::{NoMemory, RecordName, Text};
 use field_values::{Value, field_json};
@@ -51,7 +52,7 @@ fn root_json(alloc: Global, root: &ForRoot) -> Result<Json, NoMemory>
             let tag = tag.as_str();
             Ok(json!(in alloc; {"recordChangeTag": tag, "recordName": name})?)
         }
-        None => Ok(json!(in alloc; {"recordName": name})?),
+        None => text_object(alloc, "recordName", name),
     }
 }
 
@@ -76,14 +77,10 @@ fn public_json(alloc: Global, public: Option<Permission>) -> Result<Option<Json>
 fn wanted_json(alloc: Global, wanted: &Wanted) -> Result<Json, NoMemory>
     ensures { IfOk result (λ json. view json ≡ wanted_data wanted.now) }
 {
-    let permission = permission_name(wanted.permission);
+    let mut members = Map::new(alloc);
     let kind = kind_name(wanted.kind);
-    let identity = user_json(alloc, &wanted.user)?;
-    Ok(json!(in alloc; {
-        "permission": permission,
-        "type": kind,
-        "userIdentity": identity
-    })?)
+    put_wanted(&mut members, alloc, wanted.permission, kind, &wanted.user)?;
+    Ok(Json::Object(members))
 }
 
 fn wanted_list(alloc: Global, list: &[Wanted]) -> Result<Vec<Json>, NoMemory>
@@ -134,6 +131,56 @@ fn wishes_json(alloc: Global, wishes: &[Wish]) -> Result<Option<Json>, NoMemory>
     Ok(Some(wishes_object(alloc, wishes)?))
 }
 
+fn put_last(members: &mut Map<String, Json>, alloc: Global, draft: &Draft) -> Result<(), NoMemory>
+    ensures { OnOk result (members_view members.new.entries
+        ≡ put_all (last_members draft.now) (members_view members.old.entries)) }
+{
+    put_some(
+        members,
+        alloc,
+        "recordType",
+        name_text(alloc, &draft.rtype)?,
+    )?;
+    put_some(members, alloc, "recordName", name_text(alloc, &draft.name)?)?;
+    put_some(
+        members,
+        alloc,
+        "recordChangeTag",
+        text_json(alloc, &draft.tag)?,
+    )?;
+    put_some(
+        members,
+        alloc,
+        "publicPermission",
+        public_json(alloc, draft.public)?,
+    )
+}
+
+fn put_first(members: &mut Map<String, Json>, alloc: Global, draft: &Draft) -> Result<(), NoMemory>
+    ensures { OnOk result (members_view members.new.entries
+        ≡ put_all (first_members draft.now) (members_view members.old.entries)) }
+{
+    put_some(
+        members,
+        alloc,
+        "participants",
+        wanted_list_json(alloc, &draft.participants)?,
+    )?;
+    put_some(members, alloc, "parent", parent_json(alloc, &draft.parent)?)?;
+    put_some(
+        members,
+        alloc,
+        "forRecord",
+        roots_json(alloc, &draft.for_root)?,
+    )?;
+    put_some(
+        members,
+        alloc,
+        "fields",
+        wishes_json(alloc, draft.fields.as_slice())?,
+    )
+}
+
 /// The JSON of a record in a request, by "Record Dictionary" of the CloudKit Web Services
 /// Reference, which `read_record` reads as this draft. What the draft leaves open is left out, and
 /// so is `fields` where it gives none. Whole numbers are written as numbers, and each participant
@@ -141,22 +188,8 @@ fn wishes_json(alloc: Global, wishes: &[Wish]) -> Result<Option<Json>, NoMemory>
 pub fn draft_json(alloc: Global, draft: &Draft) -> Result<Json, NoMemory>
     ensures { IfOk result (λ json. view json ≡ draft_data draft.now) }
 {
-    let fields = wishes_json(alloc, draft.fields.as_slice())?;
-    let for_root = roots_json(alloc, &draft.for_root)?;
-    let parent = parent_json(alloc, &draft.parent)?;
-    let participants = wanted_list_json(alloc, &draft.participants)?;
-    let public = public_json(alloc, draft.public)?;
-    let tag = text_json(alloc, &draft.tag)?;
-    let name = name_text(alloc, &draft.name)?;
-    let rtype = name_text(alloc, &draft.rtype)?;
     let mut members = Map::new(alloc);
-    put_some(&mut members, alloc, "recordType", rtype)?;
-    put_some(&mut members, alloc, "recordName", name)?;
-    put_some(&mut members, alloc, "recordChangeTag", tag)?;
-    put_some(&mut members, alloc, "publicPermission", public)?;
-    put_some(&mut members, alloc, "participants", participants)?;
-    put_some(&mut members, alloc, "parent", parent)?;
-    put_some(&mut members, alloc, "forRecord", for_root)?;
-    put_some(&mut members, alloc, "fields", fields)?;
+    put_last(&mut members, alloc, draft)?;
+    put_first(&mut members, alloc, draft)?;
     Ok(Json::Object(members))
 }

@@ -1,5 +1,6 @@
 // Objects some of whose members may be missing.
-ghost use Rattle.std.specs.Prelude.{◌≡◌, option_map, OnOk};
+ghost use Rattle.std.specs.Prelude.{◌≡◌, Some, IfOk, OnOk, option_map};
+ghost use Rattle.serde_json.specs.Data.{string, object, no_members, member};
 ghost use Rattle.serde_json.specs.View.{view, members_view};
 ghost use Rattle.ck_records.specs.Objects.{put_some};
 
@@ -21,4 +22,28 @@ pub fn put_some(
         put(members, alloc, name, value)?;
     }
     Ok(())
+}
+
+/// Adds the member with a text to those of an object.
+pub(crate) fn put_text(
+    members: &mut Map<String, Json>,
+    alloc: Global,
+    name: &str,
+    text: &str,
+) -> Result<(), NoMemory>
+    ensures { OnOk result (members_view members.new.entries
+        ≡ put_some name.now (Some (string text.now)) (members_view members.old.entries)) }
+{
+    put(members, alloc, name, Json::try_from_str(alloc, text)?)?;
+    Ok(())
+}
+
+/// The object whose one member has a text.
+pub(crate) fn text_object(alloc: Global, name: &str, text: &str) -> Result<Json, NoMemory>
+    ensures { IfOk result (λ json.
+        view json ≡ object (member name.now (string text.now) no_members)) }
+{
+    let mut members = Map::new(alloc);
+    put_text(&mut members, alloc, name, text)?;
+    Ok(Json::Object(members))
 }

@@ -7,10 +7,11 @@ ghost use Rattle.field_values.specs.Members.{found};
 ghost use Rattle.field_values.specs.References.{name_in as name_told};
 ghost use Rattle.ck_records.specs.declared.fault.RecordFault.TheVariants.{BadKey as Wrong};
 ghost use Rattle.ck_records.specs.declared.fault.RecordKey.TheVariants.{Participants as List};
-ghost use Rattle.ck_records.specs.Participants.{type_in, permission_in, may_have, user_data, wanted_of, entry_of, entries_of, participants_at};
-ghost use Rattle.ck_records.specs.Meant.{IsWanted};
+ghost use Rattle.record_model.specs.DraftForms.{may_have};
+ghost use Rattle.ck_records.specs.Participants.{type_in, permission_in, user_data, wanted_of, entry_of, entries_of, participants_at};
+ghost use Rattle.record_model.specs.DraftForms.{IsWanted};
 
-use crate::words::{EntryType, permission_named, type_named};
+use crate::spellings::{EntryType, permission_named, type_named};
 use crate::{RecordFault, RecordKey, WantedList};
 use ck_base::Items;
 use field_values::{member, name_in};

@@ -4,14 +4,14 @@ ghost use Rattle.serde_json.specs.View.{view};
 ghost use Rattle.serde_json.specs.Find.{get, as_str};
 ghost use Rattle.ck_base.specs.Told.{IsToldUnless};
 ghost use Rattle.field_values.specs.Members.{unless_null as unless_none};
-ghost use Rattle.ck_records.specs.Words.{permission_named as named};
+ghost use Rattle.ck_records.specs.Spellings.{permission_named as named};
 ghost use Rattle.ck_records.specs.Reading.{tag_at, parent_of, parent_at, tag_in, root_at, public_at, is_object, draft_of};
-ghost use Rattle.ck_records.specs.Meant.{IsParentWish, IsForRoot, IsMeantDraft};
+ghost use Rattle.record_model.specs.DraftForms.{IsParentWish, IsForRoot, IsMeantDraft};
 
 use crate::draft_fields::read_fields;
 use crate::names::read_name;
 use crate::participants::read_participants;
-use crate::words::permission_named;
+use crate::spellings::permission_named;
 use crate::{Draft, ForRoot, ParentWish, RecordFault, RecordKey};
 use ck_base::{Text, UserName, ZoneKey};
 use field_values::{member, name_in, unless_null};

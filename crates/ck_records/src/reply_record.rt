@@ -4,13 +4,13 @@ ghost use Rattle.std.specs.List.{list_all};
 ghost use Rattle.serde_json.specs.View.{view};
 ghost use Rattle.ck_base.specs.Order.{are_ascending};
 ghost use Rattle.ck_base.specs.Told.{IsToldUnless};
-ghost use Rattle.ck_records.specs.Stored.{keeps, IsStored};
+ghost use Rattle.record_model.specs.RecordForms.{keeps, IsStored};
 ghost use Rattle.ck_records.specs.Replied.{IsReplyOf};
 ghost use Rattle.ck_records.specs.Shown.{plain_shown, record_shown, are_kept, body_in_form, is_in_form, IsStoredWith};
 
+use crate::record_write::record_json;
 use crate::shown::{read_links, read_names, read_stamps, read_tag, read_values};
 use crate::shown_share::read_body;
-use crate::write::record_json;
 use crate::{Body, Record, ReplyRecordFault};
 use ck_base::ZoneKey;
 use field_values::{member, same_json};

@@ -4,7 +4,7 @@ ghost use Rattle.std.specs.List.{AllByRecursion};
 ghost use Rattle.serde_json.specs.View.{view};
 ghost use Rattle.ck_base.specs.Names.{IsName};
 ghost use Rattle.ck_base.specs.Told.{IsToldUnless};
-ghost use Rattle.ck_records.specs.Stored.{IsStamp, AreFields};
+ghost use Rattle.record_model.specs.RecordForms.{IsStamp, AreFields};
 ghost use Rattle.ck_records.specs.Shown.{name_shown, link_shown, tag_shown, moment_shown, stamp_shown, with_value, with_values, fields_shown, names_shown, links_shown, stamps_shown};
 
 use crate::draft_fields::read_fields;

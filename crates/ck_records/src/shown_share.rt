@@ -5,15 +5,16 @@ ghost use Rattle.serde_json.specs.View.{view};
 ghost use Rattle.ck_base.specs.Names.{IsName};
 ghost use Rattle.ck_base.specs.Guids.{IsGuid};
 ghost use Rattle.ck_base.specs.Told.{IsToldUnless};
-ghost use Rattle.ck_records.specs.Stored.{is_share_type, IsShare, IsBodyOf};
+ghost use Rattle.record_model.specs.RecordForms.{IsShare, IsBodyOf};
 ghost use Rattle.ck_records.specs.Shown.{HasUser, is_accepted, own_permission, participant_of, entry_shown, entries_shown, participants_shown, root_shown, guid_shown, public_shown, share_shown, body_shown, are_kept, body_in_form};
 
 use crate::participants::read_entry;
 use crate::shown::read_name;
-use crate::words::permission_named;
+use crate::spellings::permission_named;
 use crate::{Body, RecordFault, ReplyRecordFault};
 use ck_base::{Guid, Items, RecordName};
 use field_values::member;
+use record_model::is_share_type;
 use serde_json::Value as Json;
 use share_records::{PartKind, Participant, Participants, Permission, Share, Wanted};
 use std::alloc::Global;
@@ -135,12 +136,6 @@ fn read_share(alloc: Global, json: &Json) -> Result<Share, ReplyRecordFault>
         public,
         participants,
     })
-}
-
-fn is_share_type(rtype: &RecordName) -> bool
-    ensures { result ≡ is_share_type rtype.now }
-{
-    rtype.as_bytes() == b"cloudkit.share".as_slice()
 }
 
 /// What the record is beside its fields: a share where its type is that of shares.

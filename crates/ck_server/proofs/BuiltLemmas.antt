@@ -3,10 +3,10 @@ use Rattle.std.proofs.Common.{◌≡◌, Bool, true, false, List, [], ◌∷◌,
 use Rattle.std.specs.Prelude.{flat_map}
 use Rattle.std.specs.List.{list_all}
 use Rattle.std.proofs.lemmas.List.Folds.{list_all-append}
-use Rattle.field_values.specs.declared.value.RefTo.{RefTo}
-use Rattle.field_values.specs.declared.value.Value.{Value, out-Value}
-use Rattle.field_values.specs.declared.value.Value.TheOpen.{Value-F}
-use Rattle.field_values.specs.Order.{elements_part}
+use Rattle.record_model.specs.declared.value.RefTo.{RefTo}
+use Rattle.record_model.specs.declared.value.Value.{Value, out-Value}
+use Rattle.record_model.specs.declared.value.Value.TheOpen.{Value-F}
+use Rattle.record_model.specs.ValueOrder.{elements_part}
 use Rattle.zone_model.specs.PlainCreates.{only_names, has_plain_references}
 use Rattle.zone_model.specs.References.{single_references, level_references}
 

@@ -7,7 +7,7 @@ use Rattle.http_front.specs.Users.{Table}
 use Rattle.talk_model.specs.declared.ends.End.{End}
 use Rattle.talk_model.specs.declared.ends.End.TheVariants.{Closed, CloseAsked, Cut, BadHead, HeadTooLong, NoLength, BodyTooLong, Spent, NotBuilt}
 use Rattle.talk_model.specs.declared.marks.Mark.{Mark}
-use Rattle.talk_model.specs.Requests.{Wanted}
+use Rattle.talk_model.specs.Requests.{Meaning}
 use Rattle.talk_model.specs.Given.{Given}
 use Rattle.talk_model.specs.Connections.{AreRequests, last_text}
 use Rattle.talk_model.specs.WholeConnections.{AreWhole, answered, end_behind}
@@ -20,7 +20,7 @@ use Rattle.ck_server.specs.Outcomes.{EndsSource, EndsWell}
 use Rattle.ck_server.specs.Completeness.{AnswersAll}
 
 -- at the ends at which the source has not ended, what it has left doesn't change the reading
-more_left : (t : Table) (end : End) (bytes taken left : List ℕ) (ws : List Wanted) → AreRequests t taken ws end → bytes ≡ taken ++ left → EndsSource end (Some left) → AreRequests t bytes ws end
+more_left : (t : Table) (end : End) (bytes taken left : List ℕ) (ws : List Meaning) → AreRequests t taken ws end → bytes ≡ taken ++ left → EndsSource end (Some left) → AreRequests t bytes ws end
 more_left t end bytes taken left ws reads parts ended = subst (λ (b : List ℕ). AreRequests t b ws end) (sym parts) (by_end end reads ended)
   where
     at_end : (e : End) → left ≡ [] → AreRequests t taken ws e → AreRequests t (taken ++ left) ws e
@@ -38,7 +38,7 @@ more_left t end bytes taken left ws reads parts ended = subst (λ (b : List ℕ)
     by_end NotBuilt a none = not_built_more t taken left ws a
 
 -- so what was taken is read as all that the source had
-all_read : (t : Table) (end : End) (bytes taken : List ℕ) (before now : Option (List ℕ)) (ws : List Wanted) → before ≡ Some bytes → Consumes before now taken → AreRequests t taken ws end → EndsSource end now
+all_read : (t : Table) (end : End) (bytes taken : List ℕ) (before now : Option (List ℕ)) (ws : List Meaning) → before ≡ Some bytes → Consumes before now taken → AreRequests t taken ws end → EndsSource end now
     → AreRequests t bytes ws end
 all_read t end bytes taken None now ws is consumed reads ended = absurd (cc)
 all_read t end bytes taken (Some all) None ws is consumed reads ended = absurd consumed
@@ -56,7 +56,7 @@ answers_all alone t gave entry now marks end k bytes rs left whole =
     let sent : c.sent ≡ talk c.wanted marks now.histories =
     sym (append-nil c.sent) ∙ (sym c.text ∙ (ap (λ (l : List ℕ). talk c.wanted marks now.histories ++ l) nothing ∙ append-nil (talk c.wanted marks now.histories))) in
     record {
-      marked = subst (λ (ws : List Wanted). AreMarksOf now.seats 0 entry.histories now.histories marks ws) one.0 c.marked;
-      written = subst (λ (text : List ℕ). Appends entry.held now.held text) (sent ∙ ap (λ (ws : List Wanted). talk ws marks now.histories) one.0) c.appended;
+      marked = subst (λ (ws : List Meaning). AreMarksOf now.seats 0 entry.histories now.histories marks ws) one.0 c.marked;
+      written = subst (λ (text : List ℕ). Appends entry.held now.held text) (sent ∙ ap (λ (ws : List Meaning). talk ws marks now.histories) one.0) c.appended;
       end_is = one.1;
     }

@@ -15,9 +15,9 @@ use Rattle.http_front.specs.Users.{Table}
 use Rattle.http_front.specs.Reading.{most_piece, ReadsOn}
 use Rattle.talk_model.specs.declared.marks.At.{At}
 use Rattle.talk_model.specs.declared.marks.Mark.{Mark}
-use Rattle.talk_model.specs.Requests.{Wanted, Wants}
+use Rattle.talk_model.specs.Requests.{Meaning, Wants}
 use Rattle.talk_model.specs.Given.{Given, given_of, givens_of, AreWordsFor}
-use Rattle.talk_model.specs.Calls.{Asked, asks_of, reply_of}
+use Rattle.talk_model.specs.Calls.{Ask, asks_of, reply_of}
 use Rattle.talk_model.specs.Connections.{most_requests, GoOn, AreOpen, AreClosing}
 use Rattle.talk_model.specs.Marks.{SeatsStay, IsAtOf, IsMarkOf, AreMarksOf, NotBefore, AreInOrder, OwnAreMarked, asks_in}
 use Rattle.talk_model.specs.Talk.{answers_at, reply_at, talk}
@@ -101,9 +101,9 @@ conversed_sent alone t entry now held marks rest last sent unsent c parts append
 }
 
 -- one request more, which asks to close or not
-closing-on : (ws : List Wanted) (w : Wanted) → AreOpen ws → (b : Bool) → w.close ≡ b → GoOn (ws ++ w ∷ []) ⊎ AreClosing (ws ++ w ∷ [])
+closing-on : (ws : List Meaning) (w : Meaning) → AreOpen ws → (b : Bool) → w.close ≡ b → GoOn (ws ++ w ∷ []) ⊎ AreClosing (ws ++ w ∷ [])
 closing-on ws w o true is = inr (record { before = ws; last = w; parts = refl; open_before = o; closes = is })
-closing-on ws w o false is = inl (all-snoc (λ (v : Wanted). v.close ≡ false) ws w o.go_on is)
+closing-on ws w o false is = inl (all-snoc (λ (v : Meaning). v.close ≡ false) ws w o.go_on is)
 
 module _ (alone here : Type 0) (known : alone → here) (t : Table) (entry now : Standing) (old : List Mark) (buffer : List ℕ) (c : Conversed alone t entry now old buffer [] [])
     (settled : IsSettled alone entry now old c.wanted) (number : ℕ) (count : number ≡ length old) (left2 held2 : Option (List ℕ)) (h2 : Histories Event) (s2 : ℕ → Option ℕ) where
@@ -119,8 +119,8 @@ module _ (alone here : Type 0) (known : alone → here) (t : Table) (entry now :
   histories_are : IsLone alone entry → now.histories ≡ run
   histories_are lone = λ i lock. settled.left_behind lone lock i
 
-  module _ (w : Wanted) (m : Mark) (answers : List Answer) where
-    abbrev the_asks : List Asked
+  module _ (w : Meaning) (m : Mark) (answers : List Answer) where
+    abbrev the_asks : List Ask
     the_asks = asks_of w (given_of m)
 
     -- what the asks of a request change, and what they leave
@@ -141,7 +141,7 @@ module _ (alone here : Type 0) (known : alone → here) (t : Table) (entry now :
       grown = subst (λ (h : Histories Event). Grows now.histories h) same.0 (grows_same now.histories);
       stays = subst (λ (s : ℕ → Option ℕ). SeatsStay now.seats s) same.1 (λ lock n e. e);
       legal = λ lock. subst (λ (h : Histories Event). IsLegal lock (now.histories lock) → IsLegal lock (h lock)) same.0 (λ l. l);
-      asks = subst (λ (ats : List At). AllZip (IsAtOf s2 entry.histories h2) ats the_asks) (sym no_traces) (subst (λ (askeds : List Asked). AllZip (IsAtOf s2 entry.histories h2) [] askeds) (sym no_asks) tt);
+      asks = subst (λ (ats : List At). AllZip (IsAtOf s2 entry.histories h2) ats the_asks) (sym no_traces) (subst (λ (askeds : List Ask). AllZip (IsAtOf s2 entry.histories h2) [] askeds) (sym no_asks) tt);
       answers_are = ap (λ ats. answers_at h2 ats the_asks) no_traces ∙ sym no_answers;
       ordered = subst AreInOrder (sym asks_now) c.ordered;
       own = subst (OwnAreMarked s2 entry.histories h2) (sym asks_now) (subst (λ (b : (ℕ → Option ℕ) × Histories Event). OwnAreMarked b.0 entry.histories b.1 (asks_in old)) (λ i. (same.1 i, same.0 i)) settled.own);
@@ -153,7 +153,7 @@ module _ (alone here : Type 0) (known : alone → here) (t : Table) (entry now :
         asks_now = ap (λ l. asks_in old ++ l) no_traces ∙ append-nil (asks_in old)
 
     -- one part was asked
-    module _ (ask : Asked) (answered : Answered) (the_ask : the_asks ≡ ask ∷ []) (asks_are : m.asks.items ≡ at_of ask answered ∷ []) (answers_is : answers ≡ answered.answer ∷ [])
+    module _ (ask : Ask) (answered : Answered) (the_ask : the_asks ≡ ask ∷ []) (asks_are : m.asks.items ≡ at_of ask answered ∷ []) (answers_is : answers ≡ answered.answer ∷ [])
         (k : IsAsked here now.seats s2 now.histories h2 ask.lock ask.part answered) where
       one_grown : Grows now.histories h2
       one_grown = turn_front here now.seats s2 now.histories h2 ask.lock k.turn
@@ -161,7 +161,7 @@ module _ (alone here : Type 0) (known : alone → here) (t : Table) (entry now :
       one_asks : AllZip (IsAtOf s2 entry.histories h2) m.asks.items the_asks
       one_asks =
           subst (λ (ats : List At). AllZip (IsAtOf s2 entry.histories h2) ats the_asks) (sym asks_are)
-          (subst (λ (askeds : List Asked). AllZip (IsAtOf s2 entry.histories h2) (at_of ask answered ∷ []) askeds) (sym the_ask)
+          (subst (λ (askeds : List Ask). AllZip (IsAtOf s2 entry.histories h2) (at_of ask answered ∷ []) askeds) (sym the_ask)
           (is_at here now.seats s2 now.histories h2 ask.lock ask.part answered k entry.histories c.grown, tt))
 
       one_answer : answers_at h2 m.asks.items the_asks ≡ answers
@@ -291,7 +291,7 @@ module _ (alone here : Type 0) (known : alone → here) (t : Table) (entry now :
       )
 
   -- a whole request was taken and answered, and of the reply all but unsent was written
-  pub conversed_on : number < most_requests → AreOpen c.wanted → (gave : List Given → Type 0) (new : List Mark) (buffer2 unsent bytes taken : List ℕ) (w : Wanted) → length buffer2 < most_piece
+  pub conversed_on : number < most_requests → AreOpen c.wanted → (gave : List Given → Type 0) (new : List Mark) (buffer2 unsent bytes taken : List ℕ) (w : Meaning) → length buffer2 < most_piece
       → Consumes now.left left2 taken → buffer ++ taken ≡ bytes ++ buffer2 → Wants t bytes w → Replies here gave number (answering now.held now.histories now.seats) (answering held2 h2 s2) old new w unsent
       → (c2 : Conversed alone t entry later new buffer2 [] unsent) × (c2.wanted ≡ c.wanted ++ w ∷ []) × IsSettled alone entry later new c2.wanted × IsOfReply alone entry later c2.wanted new unsent
   conversed_on few open_now gave new buffer2 unsent bytes taken w little consumed parts is rep =
@@ -299,6 +299,6 @@ module _ (alone here : Type 0) (known : alone → here) (t : Table) (entry now :
       (conversed_marked w rep.mark rep.answers (has_asked w rep.mark rep.answers (same_asked rep.asked)) rep.request rep.words
       few open_now buffer2 little bytes taken consumed parts is rep.sent unsent rep.text rep.appended)
     where
-      same_asked : {askeds : List Asked} {ats : List At} {answers : List Answer} → AreAsked here (answering now.held now.histories now.seats) (answering held2 h2 s2) askeds ats answers → AreAsked here now later askeds ats answers
+      same_asked : {askeds : List Ask} {ats : List At} {answers : List Answer} → AreAsked here (answering now.held now.histories now.seats) (answering held2 h2 s2) askeds ats answers → AreAsked here now later askeds ats answers
       same_asked (none_asked a b d e) = none_asked a b d e
       same_asked (one_asked ask answered a b d k) = one_asked ask answered a b d k

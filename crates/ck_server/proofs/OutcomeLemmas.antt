@@ -20,9 +20,9 @@ use Rattle.talk_model.specs.declared.ends.End.{End}
 use Rattle.talk_model.specs.declared.ends.End.TheVariants.{Closed, CloseAsked, Cut, BadHead, HeadTooLong, NoLength, BodyTooLong, Spent, NotBuilt}
 use Rattle.talk_model.specs.declared.ends.TalkFaultKind.{TalkFaultKind}
 use Rattle.talk_model.specs.declared.ends.TalkFaultKind.TheVariants.{ReadFault, WriteFault, NoMemory}
-use Rattle.talk_model.specs.Requests.{Wanted, Wants}
+use Rattle.talk_model.specs.Requests.{Meaning, Wants}
 use Rattle.talk_model.specs.Given.{Given, given_of, givens_of}
-use Rattle.talk_model.specs.Calls.{Asked}
+use Rattle.talk_model.specs.Calls.{Ask}
 use Rattle.talk_model.specs.Connections.{most_requests, GoOn, AreOpen, LeavesAt, last_text}
 use Rattle.talk_model.specs.Marks.{SeatsStay}
 use Rattle.talk_model.proofs.GrowthLemmas.{grows_on, grows_same, marks-grown, talk-grown}
@@ -253,11 +253,11 @@ module _ (alone here : Type 0) (known : alone → here) (t : Table) (entry now :
   little_now : length buffer2 < most_piece
   little_now = little_behind now.left left2 buffer buffer2 r goes.little takes
 
-  wants : (w : Wanted) → IsWanted t r w → Wants t takes.bytes w
+  wants : (w : Meaning) → IsWanted t r w → Wants t takes.bytes w
   wants w is = record { request = r; is = takes.is; close = is.close; want = is.want }
 
   -- a request more
-  record OneMore (w : Wanted) (unsent : List ℕ) : Type 0 where
+  record OneMore (w : Meaning) (unsent : List ℕ) : Type 0 where
     conversed : Conversed alone t entry standing new buffer2 [] unsent
     wanted_are : conversed.wanted ≡ (goes.conversed).wanted ++ w ∷ []
     settled : IsSettled alone entry standing new conversed.wanted
@@ -284,7 +284,7 @@ module _ (alone here : Type 0) (known : alone → here) (t : Table) (entry now :
         record {
           conversed = m.conversed;
           settled = m.settled;
-          go_on = subst GoOn (sym m.wanted_are) (all-snoc (λ (w : Wanted). w.close ≡ false) (goes.conversed).wanted s.0 goes.go_on ((s.1).close ∙ stays));
+          go_on = subst GoOn (sym m.wanted_are) (all-snoc (λ (w : Meaning). w.close ≡ false) (goes.conversed).wanted s.0 goes.go_on ((s.1).close ∙ stays));
           little = little_now;
         },
         given_now [] s,
@@ -415,7 +415,7 @@ module _ (alone here : Type 0) (known : alone → here) (t : Table) (entry now :
                 };
                 drawn = asking.words;
                 asked = asking.ask;
-                among = subst (λ (askeds : List Asked). Contains askeds asking.ask) (sym asking.the_ask) (0, omega arith, refl);
+                among = subst (λ (askeds : List Ask). Contains askeds asking.ask) (sym asking.the_ask) (0, omega arith, refl);
                 may = may_known alone here known now.seats s2 now.histories h2 lock (asking.ask).part asking.may;
               });
             };

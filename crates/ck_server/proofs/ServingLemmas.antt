@@ -11,7 +11,8 @@ use Rattle.zone_model.specs.Histories.{Histories}
 use Rattle.ck_base.specs.declared.key.ZoneKey.{ZoneKey}
 use Rattle.ck_base.specs.declared.route.Database.{Database}
 use Rattle.ck_base.specs.declared.route.Database.TheVariants.{Private, Shared, Public}
-use Rattle.zone_model.proofs.NameLaws.{same-true}
+use Rattle.ck_base.specs.KnownNames.{is_own_default}
+use Rattle.zone_laws.proofs.NameLaws.{same-true}
 use Rattle.board_model.specs.Parts.{IsOwnDefault, MayBeAsked}
 use Rattle.board_model.specs.declared.answers.Answer.{Answer}
 use Rattle.board_model.specs.declared.answers.Answer.TheVariants as answer
@@ -34,21 +35,21 @@ use Rattle.talk_model.specs.declared.wants.Want.TheVariants.{Called}
 use Rattle.talk_model.specs.declared.ends.TalkFaultKind.{TalkFaultKind}
 use Rattle.talk_model.specs.declared.ends.TalkFaultKind.TheVariants.{ReadFault, WriteFault, NoMemory}
 use Rattle.wire_calls.specs.Meant.{IsMeantZone}
-use Rattle.talk_model.specs.Requests.{Wanted, is_private, is_own_default, want_of}
+use Rattle.talk_model.specs.Requests.{Meaning, is_private, want_of}
 use Rattle.talk_model.specs.Given.{Given, given_of, words_of_call, AreSoMany, AreWordsFor, draws_in, GaveFor}
-use Rattle.talk_model.specs.Calls.{Asked, scope_of, lock_of_zone, zone_of, part_of, asks_by, asks_of, reply_to, reply_for, reply_of, text_of}
+use Rattle.talk_model.specs.Calls.{Ask, scope_of, lock_of_zone, zone_of, part_of, asks_by, asks_of, reply_to, reply_for, reply_of, text_of}
 use Rattle.ck_server.specs.declared.serving.Served.{Served}
 use Rattle.ck_server.specs.declared.serving.Served.TheVariants as served
 use Rattle.ck_server.specs.declared.serving.Told.{Told}
 use Rattle.ck_server.specs.Conversations.{Standing}
 use Rattle.ck_server.specs.Askable.{IsServable}
-use Rattle.ck_server.specs.Forms.{form_of, HasMeantOps, reply_from}
+use Rattle.ck_server.specs.ReplyOptions.{options_of, HasMeantOps, reply_from}
 use Rattle.ck_server.specs.Answering.{answering, at_of, IsSameBoard, AreAsked, none_asked, one_asked, IsWanted, IsGivenFor, IsServed, WasAsking, Serves, Sends}
 use Rattle.ck_server.specs.Marking.{given_with, IsMarked, NotMarked, ask_for, IsTold, ServesWant, Refuses, GaveOne}
 
 -- ---- a request that was marked
 
-module _ (alone : Type 0) (gave : List Given → Type 0) (number : ℕ) (held now : Option (List ℕ)) (h h2 : Histories Event) (s s2 : ℕ → Option ℕ) (old new : List Mark) (t : Table) (r : Request) (w : Wanted) (is : IsWanted t r w)
+module _ (alone : Type 0) (gave : List Given → Type 0) (number : ℕ) (held now : Option (List ℕ)) (h h2 : Histories Event) (s s2 : ℕ → Option ℕ) (old new : List Mark) (t : Table) (r : Request) (w : Meaning) (is : IsWanted t r w)
     (g : Given) (given : gave (g ∷ [])) (ats : List At) (marked : IsMarked number g ats old new) (words : AreWordsFor w.want g) (answers : List Answer)
     (asked : AreAsked alone (answering held h s) (answering now h2 s2) (asks_of w g) ats answers) (text : List ℕ) (text_is : reply_of w g answers ≡ text) where
   abbrev before : Standing
@@ -152,7 +153,7 @@ given_up alone gave number held h s marks t r more one known given = inr (record
 -- ---- a request that is refused
 
 -- where a draw failed nothing is asked
-pub undrawn_asks : (call : Call) (g : Given) → g.drawn ≡ false → ◌≡◌ {A = List Asked} (asks_by (Called call) g) []
+pub undrawn_asks : (call : Call) (g : Given) → g.drawn ≡ false → ◌≡◌ {A = List Ask} (asks_by (Called call) g) []
 undrawn_asks call g undrawn = rw undrawn refl
 
 pub undrawn_reply : (call : Call) (g : Given) → g.drawn ≡ false → reply_for (Called call) g [] ≡ Refused TryAgainLater
@@ -190,8 +191,8 @@ refusal_serves alone gave number held now h s old new close error want g given n
 
 -- ---- a call
 
--- its reply by its part and its form
-reply_by : (call : Call) (g : Given) (a : Answer) → reply_to call g (a ∷ []) ≡ reply_from (part_of call g) (form_of call) a
+-- its reply by its part and its options
+reply_by : (call : Call) (g : Given) (a : Answer) → reply_to call g (a ∷ []) ≡ reply_from (part_of call g) (options_of call) a
 reply_by (Modify c) g (answer.Modify outcomes) = refl
 reply_by (Modify c) g (answer.Lookup records) = refl
 reply_by (Modify c) g answer.NoZone = refl
@@ -204,7 +205,7 @@ own_default : (caller : List ℕ) (database : Database) (key : ZoneKey) (lock : 
 own_default caller Private key lock private own zone lock_is = record {
   of_lock = sym lock_is;
   in_private = refl;
-  by_owner = same-true caller key.owner (and_parts _ _ own).0;
+  by_owner = sym (same-true key.owner caller (and_parts _ _ own).0);
   in_default = (and_parts _ _ own).1;
   named = (zone.owner.0, zone.zone);
 }
@@ -268,19 +269,19 @@ module _ (alone : Type 0) (gave : List Given → Type 0) (number : ℕ) (held no
 
   module _ (drawn : g.drawn ≡ true) (words : length g.words ≡ words_of_call call) (told : Told) (is : IsTold alone number g call (answering None h s) (answering None h2 s2) old new told) where
     abbrev told_text : List ℕ
-    told_text = text_of close (reply_from told.part told.form (told.answered).answer)
+    told_text = text_of close (reply_from told.part told.options (told.answered).answer)
 
     told_words : AreWordsFor (Called call) g
     told_words = all_drawn drawn words
 
-    told_asks : ◌≡◌ {A = List Asked} (asks_by (Called call) g) (ask_for call g ∷ [])
+    told_asks : ◌≡◌ {A = List Ask} (asks_by (Called call) g) (ask_for call g ∷ [])
     told_asks = rw drawn refl
 
     told_asked : AreAsked alone (answering held h s) (answering now h2 s2) (asks_by (Called call) g) (at_of (ask_for call g) told.answered ∷ []) ((told.answered).answer ∷ [])
     told_asked = one_asked (ask_for call g) told.answered told_asks refl refl (is.marked).asked
 
     told_reply : reply_of (record { close = close; want = Called call }) g ((told.answered).answer ∷ []) ≡ told_text
-    told_reply = ap (text_of close) (drawn_reply ∙ (reply_by call g (told.answered).answer ∙ (λ i. reply_from (sym is.part i) (sym is.form i) (told.answered).answer)))
+    told_reply = ap (text_of close) (drawn_reply ∙ (reply_by call g (told.answered).answer ∙ (λ i. reply_from (sym is.part i) (sym is.options i) (told.answered).answer)))
       where
         drawn_reply : reply_for (Called call) g ((told.answered).answer ∷ []) ≡ reply_to call g ((told.answered).answer ∷ [])
         drawn_reply = rw drawn refl

@@ -14,9 +14,9 @@ use Rattle.talk_model.specs.declared.marks.Mark.{Mark}
 use Rattle.talk_model.specs.declared.wants.Want.{Want}
 use Rattle.talk_model.specs.declared.ends.TalkFaultKind.{TalkFaultKind}
 use Rattle.talk_model.specs.declared.ends.TalkFaultKind.TheVariants.{ReadFault, WriteFault, NoMemory}
-use Rattle.talk_model.specs.Requests.{Wanted, want_of}
+use Rattle.talk_model.specs.Requests.{Meaning, want_of}
 use Rattle.talk_model.specs.Given.{Given, given_of, AreWordsFor}
-use Rattle.talk_model.specs.Calls.{Asked, asks_of, reply_of}
+use Rattle.talk_model.specs.Calls.{Ask, asks_of, reply_of}
 use Rattle.ck_server.specs.declared.serving.Served.{Served}
 use Rattle.ck_server.specs.declared.serving.Served.TheVariants.{Answered as WasAnswered, NotBuilt}
 use Rattle.ck_server.specs.Conversations.{Standing}
@@ -26,7 +26,7 @@ abbrev pub answering : Option (List ℕ) → Histories Event → (ℕ → Option
 answering held histories seats = record { left = None; held = held; histories = histories; seats = seats }
 
 -- the trace of an ask
-abbrev pub at_of : Asked → Answered → At
+abbrev pub at_of : Ask → Answered → At
 at_of ask answered = record { lock = ask.lock; len = answered.len; event = answered.event }
 
 -- the board is as it was
@@ -34,13 +34,13 @@ abbrev pub IsSameBoard : Standing → Standing → Type 0
 IsSameBoard before after = (before.histories ≡ after.histories) × (before.seats ≡ after.seats)
 
 -- Nothing was asked, or one part; these are the traces and the answers.
-pub data AreAsked (alone : Type 0) (before after : Standing) (askeds : List Asked) (ats : List At) (answers : List Answer) : Type 0 where
+pub data AreAsked (alone : Type 0) (before after : Standing) (askeds : List Ask) (ats : List At) (answers : List Answer) : Type 0 where
   none_asked : askeds ≡ [] → ats ≡ [] → answers ≡ [] → IsSameBoard before after → AreAsked alone before after askeds ats answers
-  one_asked : (ask : Asked) → (answered : Answered) → askeds ≡ ask ∷ [] → ats ≡ at_of ask answered ∷ [] → answers ≡ answered.answer ∷ []
+  one_asked : (ask : Ask) → (answered : Answered) → askeds ≡ ask ∷ [] → ats ≡ at_of ask answered ∷ [] → answers ≡ answered.answer ∷ []
       → IsAsked alone before.seats after.seats before.histories after.histories ask.lock ask.part answered → AreAsked alone before after askeds ats answers
 
 -- The request has its mark, its asks were answered, and of its reply all but unsent was written.
-pub record Replies (alone : Type 0) (gave : List Given → Type 0) (number : ℕ) (before after : Standing) (old new : List Mark) (w : Wanted) (unsent : List ℕ) : Type 0 where
+pub record Replies (alone : Type 0) (gave : List Given → Type 0) (number : ℕ) (before after : Standing) (old new : List Mark) (w : Meaning) (unsent : List ℕ) : Type 0 where
   pub mark : Mark
   pub given : gave (given_of mark ∷ [])
   pub marks : new ≡ old ++ mark ∷ []
@@ -53,13 +53,13 @@ pub record Replies (alone : Type 0) (gave : List Given → Type 0) (number : ℕ
   pub appended : Appends before.held after.held sent
 
 -- What is wanted of the request, as it was found.
-pub record IsWanted (t : Table) (r : Request) (w : Wanted) : Type 0 where
+pub record IsWanted (t : Table) (r : Request) (w : Meaning) : Type 0 where
   pub close : w.close ≡ r.close
   pub want : want_of t r ≡ Some w.want
 
 -- the request was answered but for unsent
 abbrev pub IsServed : Type 0 → (List Given → Type 0) → ℕ → Standing → Standing → List Mark → List Mark → Table → Request → List ℕ → Type 0
-IsServed alone gave number before after old new t r unsent = (w : Wanted) × IsWanted t r w × Replies alone gave number before after old new w unsent
+IsServed alone gave number before after old new t r unsent = (w : Meaning) × IsWanted t r w × Replies alone gave number before after old new w unsent
 
 -- its words were drawn, or none of them yet
 abbrev pub MayBeWordsFor : Want → Given → Type 0
@@ -67,18 +67,18 @@ MayBeWordsFor want g = ((g.words ≡ []) × (g.drawn ≡ true)) ⊎ AreWordsFor 
 
 -- What was given for a request that has no mark.
 pub record IsGivenFor (t : Table) (r : Request) (g : Given) : Type 0 where
-  pub wanted : Wanted
+  pub wanted : Meaning
   pub is : IsWanted t r wanted
   pub words : MayBeWordsFor wanted.want g
 
 -- An ask of the request was in hand, and its words were drawn.
 pub record WasAsking (alone : Type 0) (before after : Standing) (t : Table) (r : Request) (more : List Given) : Type 0 where
-  pub wanted : Wanted
+  pub wanted : Meaning
   pub is : IsWanted t r wanted
   pub given : Given
   pub last : more ≡ given ∷ []
   pub words : AreWordsFor wanted.want given
-  pub ask : Asked
+  pub ask : Ask
   pub the_ask : asks_of wanted given ≡ ask ∷ []
   pub may : MayHaveAsked alone before.seats after.seats before.histories after.histories ask.lock ask.part
 

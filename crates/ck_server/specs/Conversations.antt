@@ -8,7 +8,7 @@ use Rattle.zone_model.specs.Legal.{IsLegal}
 use Rattle.http_front.specs.Reading.{most_piece, HasLastPiece}
 use Rattle.http_front.specs.Users.{Table}
 use Rattle.talk_model.specs.declared.marks.Mark.{Mark}
-use Rattle.talk_model.specs.Requests.{Wanted, Wants}
+use Rattle.talk_model.specs.Requests.{Meaning, Wants}
 use Rattle.talk_model.specs.Given.{Given, given_of, givens_of}
 use Rattle.talk_model.specs.Calls.{asks_of, reply_of}
 use Rattle.talk_model.specs.Connections.{most_requests, GoOn, AreClosing}
@@ -38,7 +38,7 @@ IsLone alone s = alone × ((lock : ℕ) → s.seats lock ≡ Some 0)
 -- the replies are the text of its single-client run.
 pub record Conversed (alone : Type 0) (t : Table) (entry now : Standing) (marks : List Mark) (rest last unsent : List ℕ) : Type 0 where
   pub requests : List (List ℕ)
-  pub wanted : List Wanted
+  pub wanted : List Meaning
   pub sent : List ℕ
   pub each : AllZip (Wants t) requests wanted
   pub few : length marks ≤ most_requests
@@ -59,13 +59,13 @@ abbrev pub EndsIn : List ℕ → List ℕ → Type 0
 EndsIn text unsent = (sent : List ℕ) × (text ≡ sent ++ unsent)
 
 -- the reply to a request behind others, of the single-client run
-abbrev pub alone_reply : Histories Event → List Wanted → List Given → Wanted → Given → List ℕ
+abbrev pub alone_reply : Histories Event → List Meaning → List Given → Meaning → Given → List ℕ
 alone_reply h earlier given request g = reply_of request g (answers_alone (after_all h earlier given) (asks_of request g))
 
 -- The reply to the last request ends in what is unsent; of a board that is alone it is that of the single-client run.
-pub record IsOfReply (alone : Type 0) (entry now : Standing) (wanted : List Wanted) (marks : List Mark) (unsent : List ℕ) : Type 0 where
-  pub earlier : List Wanted
-  pub request : Wanted
+pub record IsOfReply (alone : Type 0) (entry now : Standing) (wanted : List Meaning) (marks : List Mark) (unsent : List ℕ) : Type 0 where
+  pub earlier : List Meaning
+  pub request : Meaning
   pub before : List Mark
   pub mark : Mark
   pub requests_are : wanted ≡ earlier ++ request ∷ []
@@ -75,12 +75,12 @@ pub record IsOfReply (alone : Type 0) (entry now : Standing) (wanted : List Want
 
 -- What is unsent is of what is written last or, where that is nothing, of the last reply: whatever stands before it was written whole. A
 -- reply is written before more is read: behind its request less was taken than one read takes.
-abbrev pub IsOfLast : Type 0 → Standing → Standing → List Wanted → List Mark → List ℕ → List ℕ → List ℕ → Type 0
+abbrev pub IsOfLast : Type 0 → Standing → Standing → List Meaning → List Mark → List ℕ → List ℕ → List ℕ → Type 0
 IsOfLast alone entry now wanted marks rest last unsent =
     EndsIn last unsent ⊎ ((last ≡ []) × (length rest < most_piece) × IsOfReply alone entry now wanted marks unsent)
 
 -- No ask is in hand: the board's own events beyond those at entry are just those marked, and a board that is alone has the
 -- histories that its single-client run leaves.
-pub record IsSettled (alone : Type 0) (entry now : Standing) (marks : List Mark) (wanted : List Wanted) : Type 0 where
+pub record IsSettled (alone : Type 0) (entry now : Standing) (marks : List Mark) (wanted : List Meaning) : Type 0 where
   pub own : OwnAreMarked now.seats entry.histories now.histories (asks_in marks)
   pub left_behind : IsLone alone entry → (lock : ℕ) → now.histories lock ≡ after_all entry.histories wanted (givens_of marks) lock

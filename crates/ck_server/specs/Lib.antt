@@ -3,7 +3,7 @@ pub mod Conversations
 -- which calls may be served
 pub mod Askable
 -- what a reply takes of its call
-pub mod Forms
+pub mod ReplyOptions
 -- how one request is served
 pub mod Answering
 -- how a conversation ends or breaks off

@@ -15,12 +15,12 @@ use Rattle.talk_model.specs.declared.ends.TalkFaultKind.{TalkFaultKind}
 use Rattle.talk_model.specs.declared.ends.TalkFaultKind.TheVariants.{ReadFault, WriteFault, NoMemory}
 use Rattle.talk_model.specs.Requests.{want_of}
 use Rattle.talk_model.specs.Given.{Given, given_of, draws_in}
-use Rattle.talk_model.specs.Calls.{Asked, lock_of_zone, zone_of, part_of}
+use Rattle.talk_model.specs.Calls.{Ask, lock_of_zone, zone_of, part_of}
 use Rattle.ck_server.specs.declared.serving.Served.{Served}
 use Rattle.ck_server.specs.declared.serving.Served.TheVariants.{Answered, NotBuilt}
 use Rattle.ck_server.specs.declared.serving.Told.{Told}
 use Rattle.ck_server.specs.Conversations.{Standing}
-use Rattle.ck_server.specs.Forms.{form_of}
+use Rattle.ck_server.specs.ReplyOptions.{options_of}
 use Rattle.ck_server.specs.Answering.{at_of, IsSameBoard, Serves}
 
 abbrev pub given_with : ℕ → List (List ℕ) → Bool → Given
@@ -35,28 +35,28 @@ pub record IsMarked (number : ℕ) (g : Given) (ats : List At) (old new : List M
   pub asks : mark.asks.items ≡ ats
 
 -- The part was asked, and its request was marked with that ask.
-pub record Marked (alone : Type 0) (number : ℕ) (g : Given) (before after : Standing) (old new : List Mark) (ask : Asked) (answered : AnsweredAsk) : Type 0 where
+pub record Marked (alone : Type 0) (number : ℕ) (g : Given) (before after : Standing) (old new : List Mark) (ask : Ask) (answered : AnsweredAsk) : Type 0 where
   pub marked : IsMarked number g (at_of ask answered ∷ []) old new
   pub asked : IsAsked alone before.seats after.seats before.histories after.histories ask.lock ask.part answered
 
 -- Nothing was marked, and the board is as it was, or has perhaps been asked.
-pub record NotMarked (alone : Type 0) (before after : Standing) (old new : List Mark) (ask : Asked) : Type 0 where
+pub record NotMarked (alone : Type 0) (before after : Standing) (old new : List Mark) (ask : Ask) : Type 0 where
   pub marks : new ≡ old
   pub may : IsSameBoard before after ⊎ MayHaveAsked alone before.seats after.seats before.histories after.histories ask.lock ask.part
 
 -- a part was asked and marked, or memory ran out before
-abbrev pub WasMarked : {E : Type 0} → Type 0 → ℕ → Given → Standing → Standing → List Mark → List Mark → Asked → Result AnsweredAsk E → Type 0
+abbrev pub WasMarked : {E : Type 0} → Type 0 → ℕ → Given → Standing → Standing → List Mark → List Mark → Ask → Result AnsweredAsk E → Type 0
 WasMarked alone number g before after old new ask (Ok answered) = Marked alone number g before after old new ask answered
 WasMarked alone number g before after old new ask (Err e) = NotMarked alone before after old new ask
 
 -- what a call asks, and where
-abbrev pub ask_for : Call → Given → Asked
+abbrev pub ask_for : Call → Given → Ask
 ask_for call g = record { lock = lock_of_zone (zone_of call); part = part_of call g }
 
 -- The call was asked and marked.
 pub record IsTold (alone : Type 0) (number : ℕ) (g : Given) (call : Call) (before after : Standing) (old new : List Mark) (told : Told) : Type 0 where
   pub part : told.part ≡ part_of call g
-  pub form : told.form ≡ form_of call
+  pub options : told.options ≡ options_of call
   pub marked : Marked alone number g before after old new (ask_for call g) told.answered
 
 abbrev pub AsksCall : {E : Type 0} → Type 0 → ℕ → Given → Call → Standing → Standing → List Mark → List Mark → Result Told E → Type 0

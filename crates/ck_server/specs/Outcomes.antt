@@ -11,9 +11,9 @@ use Rattle.talk_model.specs.declared.ends.End.TheVariants.{Closed, Cut, CloseAsk
 use Rattle.talk_model.specs.declared.ends.TalkFaultKind.{TalkFaultKind}
 use Rattle.talk_model.specs.declared.ends.TalkFaultKind.TheVariants.{ReadFault, WriteFault, NoMemory}
 use Rattle.talk_model.specs.declared.marks.Mark.{Mark}
-use Rattle.talk_model.specs.Requests.{Wanted, Wants}
+use Rattle.talk_model.specs.Requests.{Meaning, Wants}
 use Rattle.talk_model.specs.Given.{Given, givens_of, AreWordsFor}
-use Rattle.talk_model.specs.Calls.{Asked, asks_of}
+use Rattle.talk_model.specs.Calls.{Ask, asks_of}
 use Rattle.talk_model.specs.Connections.{AreOpen, LeavesAt, AreRequests, last_text}
 use Rattle.ck_server.specs.Conversations.{Standing, Conversed, IsSettled, IsOfLast}
 use Rattle.ck_server.specs.Answering.{MayBeWordsFor}
@@ -31,7 +31,7 @@ ReadsNoFurtherAt Spent rest = length rest < most_piece
 ReadsNoFurtherAt end rest = ⊤
 
 -- what is written last is nothing, or what is written at the end that the bytes have
-abbrev pub IsLast : Table → List Wanted → List ℕ → List ℕ → Type 0
+abbrev pub IsLast : Table → List Meaning → List ℕ → List ℕ → Type 0
 IsLast t wanted rest last = (last ≡ []) ⊎ ((end : End) × LeavesAt t end wanted rest × (last ≡ last_text end))
 
 -- The whole requests that the end tells were answered, and behind the last stands what the end says. The clock and the words
@@ -46,10 +46,10 @@ pub record EndsWell (alone : Type 0) (t : Table) (gave : List Given → Type 0) 
   pub given : gave (givens_of marks)
 
 -- This was given for a request that has no mark, and which stands at the front of the rest.
-pub record IsInHand (t : Table) (earlier : List Wanted) (rest : List ℕ) (given : Given) : Type 0 where
+pub record IsInHand (t : Table) (earlier : List Meaning) (rest : List ℕ) (given : Given) : Type 0 where
   pub request : List ℕ
   pub behind : List ℕ
-  pub wanted : Wanted
+  pub wanted : Meaning
   pub open_before : AreOpen earlier
   pub whole : rest ≡ request ++ behind
   pub means : Wants t request wanted
@@ -57,18 +57,18 @@ pub record IsInHand (t : Table) (earlier : List Wanted) (rest : List ℕ) (given
 
 -- An ask of that request was in hand when memory ran out: its words were drawn, and at its lock the board may have added what
 -- that ask makes with them.
-pub record HasAskInHand (alone : Type 0) (t : Table) (before now : Standing) (earlier : List Wanted) (rest : List ℕ) (more : List Given) : Type 0 where
+pub record HasAskInHand (alone : Type 0) (t : Table) (before now : Standing) (earlier : List Meaning) (rest : List ℕ) (more : List Given) : Type 0 where
   pub given : Given
   pub last : more ≡ given ∷ []
   pub hand : IsInHand t earlier rest given
   pub drawn : AreWordsFor hand.wanted.want given
-  pub asked : Asked
+  pub asked : Ask
   pub among : Contains (asks_of hand.wanted given) asked
   pub may : MayHaveAsked alone before.seats now.seats before.histories now.histories asked.lock asked.part
 
 -- The histories are those that the marks leave, or one ask was in hand. More is what was given for the request without a mark, if
 -- the clock was read for it.
-pub record MayHaveInHand (alone : Type 0) (t : Table) (entry now : Standing) (marks : List Mark) (wanted : List Wanted) (rest : List ℕ) (more : List Given) : Type 0 where
+pub record MayHaveInHand (alone : Type 0) (t : Table) (entry now : Standing) (marks : List Mark) (wanted : List Meaning) (rest : List ℕ) (more : List Given) : Type 0 where
   pub before : Standing
   pub settled : IsSettled alone entry before marks wanted
   pub one : length more ≤ 1

@@ -1,23 +1,17 @@
 // Which calls are built.
 ghost use Rattle.std.specs.Prelude.{◌≡◌, ℕ, List, Option};
 ghost use Rattle.std.specs.List.{list_all};
-ghost use Rattle.field_values.specs.declared.value.RefTo.{RefTo};
-ghost use Rattle.field_values.specs.declared.value.Value.{Value as SeenValue, out-Value};
-ghost use Rattle.field_values.specs.Order.{elements_part};
+ghost use Rattle.record_model.specs.declared.value.RefTo.{RefTo};
+ghost use Rattle.record_model.specs.declared.value.Value.{Value as SeenValue, out-Value};
 ghost use Rattle.zone_model.specs.Options.{is_none_or};
 ghost use Rattle.zone_model.specs.PlainCreates.{gives_no_parent, gives_no_share, only_names, has_plain_references, is_plain_draft, is_plain_create};
 ghost use Rattle.zone_model.specs.References.{single_references};
-ghost use Rattle.talk_model.specs.Requests.{is_built_operation, is_built_route, is_own_default, is_built};
+ghost use Rattle.talk_model.specs.Requests.{is_built_operation, is_built_route, is_built};
 
-use ck_base::{Database, Operation, Route, UserName, ZoneKey};
-use ck_records::{Draft, ParentWish, Wish};
-use field_values::{Action, Value};
+use ck_base::{Database, Operation, Route, is_own_default};
 use modify_ops::{Op, OpKind};
+use record_model::{Action, Draft, ParentWish, Value, Wish, elements, is_share_type};
 use wire_calls::Call;
-
-const SHARE_TYPE: &[u8] = b"cloudkit.share";
-
-const DEFAULT_ZONE: &[u8] = b"_defaultZone";
 
 fn is_built_operation(operation: Operation) -> bool
     ensures { result ≡ is_built_operation operation }
@@ -60,16 +54,6 @@ fn all_only_name(values: &[Value]) -> bool
     values.iter().all(|value| only_names_one(value))
 }
 
-// The elements of a list, and none of another value.
-fn elements(value: &Value) -> &[Value]
-    ensures { result.now ≡ elements_part (out-Value value.now) }
-{
-    match value {
-        Value::List(_, items) => items.as_slice(),
-        _ => &[],
-    }
-}
-
 // Whether a value refers to no record, or only names one. A list in a list has no references.
 #[tactic(auto, using(crate::proofs::BuiltLemmas::plain_by_parts))]
 fn has_plain_references(value: &Value) -> bool
@@ -106,7 +90,7 @@ fn gives_no_share(draft: &Draft) -> bool
     ensures { result ≡ gives_no_share draft.now }
 {
     let is_share = match &draft.rtype {
-        Some(rtype) => rtype.as_bytes() == SHARE_TYPE,
+        Some(rtype) => is_share_type(rtype),
         None => false,
     };
     !is_share && draft.for_root.is_none() && draft.public.is_none() && draft.participants.is_none()
@@ -130,12 +114,6 @@ fn all_are_plain_creates(ops: &[Op]) -> bool
     ensures { result ≡ list_all is_plain_create ops.now }
 {
     ops.iter().all(|op| is_plain_create(op))
-}
-
-fn is_own_default(caller: &UserName, key: &ZoneKey) -> bool
-    ensures { result ≡ is_own_default caller.now key.now }
-{
-    caller.as_bytes() == key.owner.as_bytes() && key.zone.as_bytes() == DEFAULT_ZONE
 }
 
 // Calls of the caller's default zone in the private database, and of those that modify creates of

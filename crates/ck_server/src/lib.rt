@@ -11,12 +11,3 @@ mod want;
 
 pub use conversation::converse;
 pub use talk_model::{At, End, Mark, Talk, TalkFault, TalkFaultKind};
-
-#[cfg(test)]
-mod end_tests;
-#[cfg(test)]
-mod order_tests;
-#[cfg(test)]
-mod test_talks;
-#[cfg(test)]
-mod tests;

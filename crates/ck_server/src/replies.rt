@@ -1,7 +1,7 @@
 // Replies to calls, from their answers.
 ghost use Rattle.std.specs.Prelude.{◌≡◌, IfOk, map, zip};
 ghost use Rattle.talk_model.specs.Calls.{error_of, entry_of, shown, found_entry};
-ghost use Rattle.ck_server.specs.Forms.{HasMeantOps, reply_from};
+ghost use Rattle.ck_server.specs.ReplyOptions.{HasMeantOps, reply_from};
 
 use board_model::{Answer, Part};
 use ck_base::{Items, NoMemory, RecordName, RecordNames, ZoneKey};
@@ -14,7 +14,7 @@ use zone_model::{OpFault, Outcome};
 
 /// What a reply takes of its call, beside what the part has.
 #[derive(Drop)]
-pub(crate) struct Form {
+pub(crate) struct ReplyOptions {
     pub numbers_as_strings: bool,
     pub desired_keys: Option<RecordNames>,
 }
@@ -117,27 +117,27 @@ fn lookup_entries(
 
 fn records_reply(
     key: &ZoneKey,
-    form: &Form,
+    options: &ReplyOptions,
     entries: RecordEntries,
 ) -> Result<RecordsReply, NoMemory>
-    ensures { IfOk result (λ reply. reply ≡ record { zone = key.now; numbers_as_strings = form.now.numbers_as_strings; entries = entries }) }
+    ensures { IfOk result (λ reply. reply ≡ record { zone = key.now; numbers_as_strings = options.now.numbers_as_strings; entries = entries }) }
 {
     Ok(RecordsReply {
         zone: key.clone()?,
-        numbers_as_strings: form.numbers_as_strings,
+        numbers_as_strings: options.numbers_as_strings,
         entries,
     })
 }
 
-// The reply to the call that a part and a form came from, by the part's answer.
+// The reply to the call that a part and options came from, by the part's answer.
 pub(crate) fn reply_from(
     alloc: Global,
     part: &Part,
-    form: &Form,
+    options: &ReplyOptions,
     answer: &Answer,
 ) -> Result<Reply, NoMemory>
     requires { HasMeantOps part.now }
-    ensures { IfOk result (λ reply. reply ≡ reply_from part.now form.now answer.now) }
+    ensures { IfOk result (λ reply. reply ≡ reply_from part.now options.now answer.now) }
 {
     match part {
         Part::Modify {
@@ -149,15 +149,15 @@ pub(crate) fn reply_from(
             Answer::Modify(outcomes) => {
                 let names = names_of(alloc, ops.as_slice(), words.as_slice())?;
                 let entries = outcome_entries(alloc, names.as_slice(), outcomes.as_slice())?;
-                Ok(Reply::Modify(records_reply(key, form, entries)?))
+                Ok(Reply::Modify(records_reply(key, options, entries)?))
             }
             Answer::Lookup(_) | Answer::NoZone => Ok(Reply::Refused(ServerError::ZoneNotFound)),
         },
         Part::Lookup { key, names, .. } => match answer {
             Answer::Lookup(records) => {
-                let keys = &form.desired_keys;
+                let keys = &options.desired_keys;
                 let entries = lookup_entries(alloc, keys, names.as_slice(), records.as_slice())?;
-                Ok(Reply::Lookup(records_reply(key, form, entries)?))
+                Ok(Reply::Lookup(records_reply(key, options, entries)?))
             }
             Answer::Modify(_) | Answer::NoZone => Ok(Reply::Refused(ServerError::ZoneNotFound)),
         },

@@ -6,12 +6,12 @@ ghost use Rattle.wire_calls.specs.declared.reply.Reply.TheVariants.{Refused};
 ghost use Rattle.talk_model.specs.Given.{Draws, GaveFor, words_of_call};
 ghost use Rattle.talk_model.specs.Calls.{scope_of, zone_of, part_of, text_of};
 ghost use Rattle.ck_server.specs.Askable.{IsServable};
-ghost use Rattle.ck_server.specs.Forms.{form_of, HasMeantOps, reply_from};
+ghost use Rattle.ck_server.specs.ReplyOptions.{options_of, HasMeantOps, reply_from};
 ghost use Rattle.ck_server.specs.Answering.{answering, Sends, Serves};
 ghost use Rattle.ck_server.specs.Marking.{IsMarked, WasMarked, given_with, AsksCall, ServesWant, Refuses, GaveOne};
 
 use crate::drawing::{Drawn, draw_words, nothing_drawn, words_of};
-use crate::replies::{Form, reply_from};
+use crate::replies::{ReplyOptions, reply_from};
 use crate::sending::send_reply;
 use crate::want::read_want;
 use board_model::{Answered, Part, Word};
@@ -35,32 +35,32 @@ pub(crate) enum Served {
 
 /// Which request of a connection is served, counted from 0, and at what moment.
 #[derive(Clone, Copy)]
-pub(crate) struct Turn {
+pub(crate) struct Arrival {
     pub number: u64,
     pub moment: u64,
 }
 
-/// What a call was answered: the part that was asked, the form of the reply, and the answer.
+/// What a call was answered: the part that was asked, the options of the reply, and the answer.
 #[derive(Drop)]
 pub(crate) struct Told {
     pub part: Part,
-    pub form: Form,
+    pub options: ReplyOptions,
     pub answered: Answered,
 }
 
 // Marks a request that asks nothing.
 fn mark_refusal(
     alloc: Global,
-    turn: Turn,
+    arrival: Arrival,
     drawn: Drawn,
     marks: &mut Vec<Mark>,
 ) -> Result<(), NoMemory>
-    ensures marked { IfOk result (λ _. IsMarked turn.number (given_with turn.moment drawn.words.items drawn.drawn) [] marks.old.items marks.new.items) }
+    ensures marked { IfOk result (λ _. IsMarked arrival.number (given_with arrival.moment drawn.words.items drawn.drawn) [] marks.old.items marks.new.items) }
     ensures kept { OnErr result (marks.new.items ≡ marks.old.items) }
 {
     marks.push(Mark {
-        request: turn.number,
-        moment: turn.moment,
+        request: arrival.number,
+        moment: arrival.moment,
         words: drawn.words,
         drawn: drawn.drawn,
         asks: Vec::new(alloc),
@@ -74,13 +74,13 @@ fn mark_ask<B: Board>(
     board: &mut B,
     lock: u8,
     part: &Part,
-    turn: Turn,
+    arrival: Arrival,
     words: Vec<Word>,
     marks: &mut Vec<Mark>,
 ) -> Result<Answered, NoMemory>
     requires lock { lock < 16 }
     requires part { MayBeAsked lock part.now }
-    ensures marks { WasMarked (B.alone board.old) turn.number (given_with turn.moment words.items true)
+    ensures marks { WasMarked (B.alone board.old) arrival.number (given_with arrival.moment words.items true)
         (answering None (B.history board.old) (B.seats board.old)) (answering None (B.history board.new) (B.seats board.new))
         marks.old.items marks.new.items (record { lock = lock; part = part.now }) result }
     ensures alone { B.alone board.old → B.alone board.new }
@@ -99,8 +99,8 @@ fn mark_ask<B: Board>(
     .unwrap();
     marks
         .push(Mark {
-            request: turn.number,
-            moment: turn.moment,
+            request: arrival.number,
+            moment: arrival.moment,
             words,
             drawn: true,
             asks,
@@ -127,15 +127,15 @@ fn zone_of(call: &Call) -> &ZoneKey
     }
 }
 
-// The part that a call asks, and the form of its reply.
+// The part that a call asks, and the options of its reply.
 fn split_call(
     alloc: Global,
     call: Call,
     moment: u64,
     words: &[Word],
-) -> Result<(Part, Form), NoMemory>
+) -> Result<(Part, ReplyOptions), NoMemory>
     ensures part { IfOk result (λ split. split.0 ≡ part_of call (given_with moment words.now true)) }
-    ensures form { IfOk result (λ split. split.1 ≡ form_of call) }
+    ensures options { IfOk result (λ split. split.1 ≡ options_of call) }
 {
     match call {
         Call::Modify(call) => {
@@ -148,11 +148,11 @@ fn split_call(
                 moment,
                 words: Items::from_slice(alloc, words)?,
             };
-            let form = Form {
+            let options = ReplyOptions {
                 numbers_as_strings: call.numbers_as_strings,
                 desired_keys: None,
             };
-            Ok((part, form))
+            Ok((part, options))
         }
         Call::Lookup(call) => {
             let part = Part::Lookup {
@@ -161,11 +161,11 @@ fn split_call(
                 key: call.zone,
                 names: call.names,
             };
-            let form = Form {
+            let options = ReplyOptions {
                 numbers_as_strings: call.numbers_as_strings,
                 desired_keys: call.desired_keys,
             };
-            Ok((part, form))
+            Ok((part, options))
         }
     }
 }
@@ -175,23 +175,23 @@ fn ask_call<B: Board>(
     alloc: Global,
     board: &mut B,
     call: Call,
-    turn: Turn,
+    arrival: Arrival,
     words: Vec<Word>,
     marks: &mut Vec<Mark>,
 ) -> Result<Told, NoMemory>
     requires servable { IsServable call }
     requires words { length words.items ≡ words_of_call call }
-    ensures asks { AsksCall (B.alone board.old) turn.number (given_with turn.moment words.items true) call
+    ensures asks { AsksCall (B.alone board.old) arrival.number (given_with arrival.moment words.items true) call
         (answering None (B.history board.old) (B.seats board.old)) (answering None (B.history board.new) (B.seats board.new))
         marks.old.items marks.new.items result }
     ensures alone { B.alone board.old → B.alone board.new }
 {
     let lock = lock_of(zone_of(&call));
-    let (part, form) = split_call(alloc, call, turn.moment, words.as_slice())?;
-    let answered = mark_ask(alloc, board, lock, &part, turn, words, marks)?;
+    let (part, options) = split_call(alloc, call, arrival.moment, words.as_slice())?;
+    let answered = mark_ask(alloc, board, lock, &part, arrival, words, marks)?;
     Ok(Told {
         part,
-        form,
+        options,
         answered,
     })
 }
@@ -204,11 +204,11 @@ fn reply_told<W: Sink>(
     told: &Told,
 ) -> Result<(), TalkFaultKind>
     requires { HasMeantOps told.now.part }
-    ensures sends { Sends (W.held sink.old) (W.held sink.new) (text_of close (reply_from told.now.part told.now.form told.now.answered.answer)) result }
+    ensures sends { Sends (W.held sink.old) (W.held sink.new) (text_of close (reply_from told.now.part told.now.options told.now.answered.answer)) result }
     ensures later { W.fault_count sink.old ≤ W.fault_count sink.new }
     ensures cause { IsErrOf result TalkFaultKind.WriteFault → Rose (W.fault_count sink.old) (W.fault_count sink.new) }
 {
-    let reply = reply_from(alloc, &told.part, &told.form, &told.answered.answer)?;
+    let reply = reply_from(alloc, &told.part, &told.options, &told.answered.answer)?;
     send_reply(alloc, sink, close, &reply)
 }
 
@@ -218,16 +218,16 @@ fn refuse_request<W: Sink>(
     sink: &mut W,
     error: ServerError,
     close: bool,
-    turn: Turn,
+    arrival: Arrival,
     drawn: Drawn,
     marks: &mut Vec<Mark>,
 ) -> Result<Served, TalkFaultKind>
-    ensures refuses { Refuses turn.number (given_with turn.moment drawn.words.items drawn.drawn) (W.held sink.old) (W.held sink.new)
+    ensures refuses { Refuses arrival.number (given_with arrival.moment drawn.words.items drawn.drawn) (W.held sink.old) (W.held sink.new)
         marks.old.items marks.new.items (text_of close (Refused error)) result }
     ensures later { W.fault_count sink.old ≤ W.fault_count sink.new }
     ensures cause { IsErrOf result TalkFaultKind.WriteFault → Rose (W.fault_count sink.old) (W.fault_count sink.new) }
 {
-    mark_refusal(alloc, turn, drawn, marks)?;
+    mark_refusal(alloc, arrival, drawn, marks)?;
     send_reply(alloc, sink, close, &Reply::Refused(error))?;
     Ok(Served::Answered)
 }
@@ -240,11 +240,11 @@ fn serve_call<B: Board, W: Sink, R: Words>(
     words: &mut R,
     call: Call,
     close: bool,
-    turn: Turn,
+    arrival: Arrival,
     marks: &mut Vec<Mark>,
 ) -> Result<Served, TalkFaultKind>
     requires { IsServable call }
-    ensures serves { ServesWant (B.alone board.old) (GaveOne turn.moment (Draws R.gives R.fault_count) words.old words.new) turn.number
+    ensures serves { ServesWant (B.alone board.old) (GaveOne arrival.moment (Draws R.gives R.fault_count) words.old words.new) arrival.number
         (answering (W.held sink.old) (B.history board.old) (B.seats board.old)) (answering (W.held sink.new) (B.history board.new) (B.seats board.new))
         marks.old.items marks.new.items close (Want.Called call) result }
     ensures alone { B.alone board.old → B.alone board.new }
@@ -253,7 +253,7 @@ fn serve_call<B: Board, W: Sink, R: Words>(
 {
     let drawn = draw_words(alloc, words, words_of(&call))?;
     if drawn.drawn {
-        let told = ask_call(alloc, board, call, turn, drawn.words, marks)?;
+        let told = ask_call(alloc, board, call, arrival, drawn.words, marks)?;
         match reply_told(alloc, sink, close, &told) {
             Ok(()) => Ok(Served::Answered),
             Err(at) => Err(at),
@@ -264,7 +264,7 @@ fn serve_call<B: Board, W: Sink, R: Words>(
             sink,
             ServerError::TryAgainLater,
             close,
-            turn,
+            arrival,
             drawn,
             marks,
         )
@@ -293,17 +293,26 @@ pub(crate) fn serve_request<B: Board, W: Sink, C: Clock, R: Words>(
     let Some(want) = read_want(alloc, users, request)? else {
         return Ok(Served::NotBuilt);
     };
-    let turn = Turn {
+    let arrival = Arrival {
         number,
         moment: clock.now(),
     };
     match want {
         Want::Refused(error) => {
             let drawn = nothing_drawn(alloc);
-            refuse_request(alloc, sink, error, request.close, turn, drawn, marks)
+            refuse_request(alloc, sink, error, request.close, arrival, drawn, marks)
         }
         Want::Called(call) => {
-            serve_call(alloc, board, sink, words, call, request.close, turn, marks)
+            serve_call(
+                alloc,
+                board,
+                sink,
+                words,
+                call,
+                request.close,
+                arrival,
+                marks,
+            )
         }
     }
 }

@@ -6,6 +6,3 @@ mod errors;
 
 pub use bodies::error_json;
 pub use errors::{ServerError, code_of, reason_of, status};
-
-#[cfg(test)]
-mod tests;

@@ -5,15 +5,15 @@ use Rattle.std.proofs.lemmas.Bool.{or_from}
 use Rattle.serde_json.specs.Data.{Data, depth, items_depth}
 use Rattle.serde_json.specs.View.{items_of}
 use Rattle.serde_json.specs.Written.{has_float, items_have_float}
-use Rattle.field_values.specs.declared.value.Kind.{Kind}
-use Rattle.field_values.specs.declared.value.Value.{Value, out-Value, roll-Value, out-roll-Value, fold_out-Value}
-use Rattle.field_values.specs.declared.value.Value.TheOpen.{Value-F}
-use Rattle.field_values.specs.declared.value.Value.TheFolds.{map-Value}
-use Rattle.field_values.specs.Order.{elements_part}
+use Rattle.record_model.specs.declared.value.Kind.{Kind}
+use Rattle.record_model.specs.declared.value.Value.{Value, out-Value, roll-Value, out-roll-Value, fold_out-Value}
+use Rattle.record_model.specs.declared.value.Value.TheOpen.{Value-F}
+use Rattle.record_model.specs.declared.value.Value.TheFolds.{map-Value}
+use Rattle.record_model.specs.ValueOrder.{elements_part}
 use Rattle.field_values.specs.Writing.{number_data, value_step, value_data, field_data}
-use Rattle.field_values.specs.Meant.{IsSingle, IsElement, IsMeantLevel, IsMeant}
+use Rattle.record_model.specs.ValueForms.{IsSingle, IsElement, IsMeantLevel, IsMeant}
 use Rattle.field_values.specs.Exact.{FieldsAreFlat}
-use Rattle.field_values.proofs.ValueInduction.{each_value}
+use Rattle.record_model.proofs.ValueInduction.{each_value}
 
 module _ (as_text : Bool) where
   -- one level of the JSON of a value

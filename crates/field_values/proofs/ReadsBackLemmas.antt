@@ -15,23 +15,24 @@ use Rattle.serde_json.specs.Find.{as_integer, of_integer}
 use Rattle.ck_base.specs.Names.{IsName}
 use Rattle.ck_base.specs.Reading.{name_of}
 use Rattle.ck_base.specs.declared.key.ZoneKey.{ZoneKey}
-use Rattle.field_values.specs.declared.value.Action.{Action}
-use Rattle.field_values.specs.declared.value.Kind.{Kind}
-use Rattle.field_values.specs.declared.value.RefTo.{RefTo}
-use Rattle.field_values.specs.declared.value.Value.{Value, out-Value, roll-Value, roll-out-Value, fold_out-Value}
-use Rattle.field_values.specs.declared.value.Value.TheVariants.{rolls-Int64, rolls-Timestamp, rolls-Text, rolls-Bytes, rolls-Reference, rolls-List}
-use Rattle.field_values.specs.declared.value.Value.TheOpen.{Value-F}
-use Rattle.field_values.specs.declared.value.Value.TheFolds.{map-Value}
-use Rattle.field_values.specs.declared.shapes.Shape.{Shape}
-use Rattle.field_values.specs.declared.shapes.Shape.TheVariants.{Single, ListOf}
+use Rattle.record_model.specs.declared.value.Action.{Action}
+use Rattle.record_model.specs.declared.value.Kind.{Kind}
+use Rattle.record_model.specs.declared.value.RefTo.{RefTo}
+use Rattle.record_model.specs.declared.value.Value.{Value, out-Value, roll-Value, roll-out-Value, fold_out-Value}
+use Rattle.record_model.specs.declared.value.Value.TheVariants.{rolls-Int64, rolls-Timestamp, rolls-Text, rolls-Bytes, rolls-Reference, rolls-List}
+use Rattle.record_model.specs.declared.value.Value.TheOpen.{Value-F}
+use Rattle.record_model.specs.declared.value.Value.TheFolds.{map-Value}
+use Rattle.record_model.specs.declared.value.Shape.{Shape}
+use Rattle.record_model.specs.declared.value.Shape.TheVariants.{Single, ListOf}
+use Rattle.record_model.specs.Shapes.{shape_step, shape_of}
 use Rattle.field_values.specs.Results.{result_map, each_or_first_error}
 use Rattle.field_values.specs.Members.{unless_null}
 use Rattle.field_values.specs.Types.{type_name, type_named}
 use Rattle.field_values.specs.Numbers.{in_range, is_positive, is_number, number_in_text, whole_of}
 use Rattle.field_values.specs.References.{action_name, action_named, reference_of}
 use Rattle.field_values.specs.Reading.{single_of, value_of, field_of}
-use Rattle.field_values.specs.Writing.{shape_step, shape_of, number_data, reference_data, value_step, value_data, field_data}
-use Rattle.field_values.specs.Meant.{IsSingle, IsElement, IsMeantLevel}
+use Rattle.field_values.specs.Writing.{number_data, reference_data, value_step, value_data, field_data}
+use Rattle.record_model.specs.ValueForms.{IsSingle, IsElement, IsMeantLevel}
 use Rattle.field_values.specs.RoundTrip.{ReadsBack}
 use Rattle.field_values.proofs.ListLemmas.{elements_items}
 use Rattle.field_values.proofs.NumberLemmas.{own, plain_text}

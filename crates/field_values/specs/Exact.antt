@@ -3,8 +3,8 @@ use Rattle.std.specs.Prelude.{◌≡◌, ◌≤◌, Bool, false}
 use Rattle.serde_json.specs.Data.{Data, depth}
 use Rattle.serde_json.specs.Read.{max_depth}
 use Rattle.serde_json.specs.Written.{has_float}
-use Rattle.field_values.specs.declared.value.Value.{Value}
-use Rattle.field_values.specs.Meant.{IsMeant}
+use Rattle.record_model.specs.declared.value.Value.{Value}
+use Rattle.record_model.specs.ValueForms.{IsMeant}
 use Rattle.field_values.specs.Writing.{field_data}
 
 -- it has no float, and nests no deeper than what is read

@@ -12,15 +12,13 @@ pub mod References
 pub mod Reading
 -- the JSON of a value
 pub mod Writing
--- the values that some JSON means
-pub mod Meant
--- the size of a value
-pub mod Sizes
--- the order of values
-pub mod Order
--- what the order is to be
-pub mod OrderLaws
 -- reading what was written
 pub mod RoundTrip
 -- JSON that its text tells exactly
 pub mod Exact
+-- the shapes, forms, sizes and order of values
+pub use Rattle.record_model.specs.Shapes
+pub use Rattle.record_model.specs.ValueForms
+pub use Rattle.record_model.specs.ValueSizes
+pub use Rattle.record_model.specs.ValueOrder
+pub use Rattle.record_model.specs.OrderLaws

@@ -7,11 +7,11 @@ use Rattle.base64.specs.Engines.{standard}
 use Rattle.base64.specs.GeneralPurpose.{decode_of}
 use Rattle.base64.specs.declared.decode.DecodeError.{DecodeError}
 use Rattle.ck_base.specs.declared.key.ZoneKey.{ZoneKey}
-use Rattle.field_values.specs.declared.value.Kind.{Kind}
-use Rattle.field_values.specs.declared.value.Value.{Value}
-use Rattle.field_values.specs.declared.value.Value.TheVariants.{Int64, Timestamp, Text, Bytes, Reference, List as ListValue}
-use Rattle.field_values.specs.declared.shapes.Shape.{Shape}
-use Rattle.field_values.specs.declared.shapes.Shape.TheVariants.{Single, ListOf}
+use Rattle.record_model.specs.declared.value.Kind.{Kind}
+use Rattle.record_model.specs.declared.value.Value.{Value}
+use Rattle.record_model.specs.declared.value.Value.TheVariants.{Int64, Timestamp, Text, Bytes, Reference, List as ListValue}
+use Rattle.record_model.specs.declared.value.Shape.{Shape}
+use Rattle.record_model.specs.declared.value.Shape.TheVariants.{Single, ListOf}
 use Rattle.field_values.specs.declared.fault.FieldFault.{FieldFault}
 use Rattle.field_values.specs.declared.fault.FieldFault.TheVariants.{NotAField, BadBase64, WrongValue}
 use Rattle.field_values.specs.Results.{result_map, result_and_then, each_or_first_error}

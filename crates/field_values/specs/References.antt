@@ -3,10 +3,11 @@
 use Rattle.std.specs.Prelude.{ℕ, Bool, true, false, ◌&&◌, if◌then◌else◌, List, [], ◌∷◌, codes, bytes_eq, find, Option, Some, None, Result, Ok, Err}
 use Rattle.serde_json.specs.Data.{Data, null, boolean, number, string, array, object}
 use Rattle.ck_base.specs.declared.key.ZoneKey.{ZoneKey}
+use Rattle.ck_base.specs.KnownNames.{default_owner}
 use Rattle.ck_base.specs.Reading.{name_of}
 use Rattle.std.specs.Result.{result_ok}
-use Rattle.field_values.specs.declared.value.Action.{Action}
-use Rattle.field_values.specs.declared.value.RefTo.{RefTo}
+use Rattle.record_model.specs.declared.value.Action.{Action}
+use Rattle.record_model.specs.declared.value.RefTo.{RefTo}
 use Rattle.field_values.specs.declared.fault.FieldFault.{FieldFault}
 use Rattle.field_values.specs.declared.fault.FieldFault.TheVariants.{WrongValue}
 use Rattle.field_values.specs.Members.{found}
@@ -55,7 +56,7 @@ is_text s (Some (object ms)) = false
 abbrev pub is_owner : List ℕ → List ℕ → Option Data → Bool
 is_owner owner caller None = bytes_eq caller owner
 is_owner owner caller (Some d) =
-    if is_text (codes "__defaultOwner__") (Some d) then bytes_eq caller owner else is_text owner (Some d)
+    if is_text default_owner (Some d) then bytes_eq caller owner else is_text owner (Some d)
 
 -- the zone ID of this zone, or none
 abbrev pub is_here : ZoneKey → List ℕ → Option Data → Bool

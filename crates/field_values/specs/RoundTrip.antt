@@ -1,8 +1,8 @@
 -- What is written is read as what it was.
 use Rattle.std.specs.Prelude.{◌≡◌, ℕ, Bool, List, Some, Ok}
 use Rattle.ck_base.specs.declared.key.ZoneKey.{ZoneKey}
-use Rattle.field_values.specs.declared.value.Value.{Value}
-use Rattle.field_values.specs.Meant.{IsMeant}
+use Rattle.record_model.specs.declared.value.Value.{Value}
+use Rattle.record_model.specs.ValueForms.{IsMeant}
 use Rattle.field_values.specs.Reading.{field_of}
 use Rattle.field_values.specs.Writing.{field_data}
 

@@ -5,11 +5,12 @@ use Rattle.std.specs.List.{list_any, list_all}
 use Rattle.std.specs.Option.{option_or, option_map_or}
 use Rattle.serde_json.specs.Data.{Data, null, boolean, number, string, array, object, Items}
 use Rattle.serde_json.specs.Find.{as_array}
-use Rattle.field_values.specs.declared.value.Kind.{Kind}
-use Rattle.field_values.specs.declared.shapes.Shape.{Shape}
-use Rattle.field_values.specs.declared.shapes.Shape.TheVariants.{Single, ListOf}
+use Rattle.record_model.specs.declared.value.Kind.{Kind}
+use Rattle.record_model.specs.declared.value.Shape.{Shape}
+use Rattle.record_model.specs.declared.value.Shape.TheVariants.{Single, ListOf}
 use Rattle.field_values.specs.declared.fault.FieldFault.{FieldFault}
 use Rattle.field_values.specs.declared.fault.FieldFault.TheVariants.{UnknownType, MixedList, WrongValue}
+use Rattle.record_model.specs.Shapes.{kind_place}
 use Rattle.field_values.specs.Members.{found, elements}
 use Rattle.field_values.specs.Results.{result_map}
 
@@ -48,13 +49,6 @@ kind_shown (object ms) =
 
 abbrev pub is_array : Data → Bool
 is_array d = is_some (as_array d)
-
-abbrev pub kind_place : Kind → ℕ
-kind_place Kind.Int64 = 0
-kind_place Kind.Timestamp = 1
-kind_place Kind.Text = 2
-kind_place Kind.Bytes = 3
-kind_place Kind.Reference = 4
 
 -- the first kind that elements show
 abbrev pub first_kind : List Data → Option Kind

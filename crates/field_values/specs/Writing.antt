@@ -7,26 +7,12 @@ use Rattle.serde_json.specs.Find.{of_integer}
 use Rattle.serde_json.specs.View.{items_of}
 use Rattle.base64.specs.Engines.{standard}
 use Rattle.base64.specs.GeneralPurpose.{encode_of}
-use Rattle.field_values.specs.declared.value.Kind.{Kind}
-use Rattle.field_values.specs.declared.value.RefTo.{RefTo}
-use Rattle.field_values.specs.declared.value.Value.{Value, fold-Value}
-use Rattle.field_values.specs.declared.value.Value.TheOpen.{Value-F}
-use Rattle.field_values.specs.declared.shapes.Shape.{Shape}
-use Rattle.field_values.specs.declared.shapes.Shape.TheVariants.{Single, ListOf}
+use Rattle.record_model.specs.declared.value.RefTo.{RefTo}
+use Rattle.record_model.specs.declared.value.Value.{Value, fold-Value}
+use Rattle.record_model.specs.declared.value.Value.TheOpen.{Value-F}
+use Rattle.record_model.specs.Shapes.{shape_of}
 use Rattle.field_values.specs.Types.{type_name}
 use Rattle.field_values.specs.References.{action_name}
-
--- the type of a value
-abbrev pub shape_step : {A : Type 0} → Value-F A → Shape
-shape_step (Value-F.Int64 n) = Single Kind.Int64
-shape_step (Value-F.Timestamp n) = Single Kind.Timestamp
-shape_step (Value-F.Text t) = Single Kind.Text
-shape_step (Value-F.Bytes b) = Single Kind.Bytes
-shape_step (Value-F.Reference r) = Single Kind.Reference
-shape_step (Value-F.List k vs) = ListOf k
-
-abbrev pub shape_of : Value → Shape
-shape_of = fold-Value Shape shape_step
 
 abbrev pub number_data : Bool → ℤ → Data
 number_data as_text n = if as_text then string (signed_decimal n) else number (of_integer n)

@@ -1,25 +1,25 @@
 // Reading a field.
 ghost use Rattle.std.specs.Prelude.{◌≡◌, option_map, map, IfOk, IfSome, IsUtf8};
 ghost use Rattle.std.specs.List.{AllByRecursion};
-ghost use Rattle.base64.specs.GeneralPurpose.{IsBytes};
+ghost use Rattle.record_model.specs.ValueForms.{AreBytes};
 ghost use Rattle.ck_base.specs.Told.{IsToldUnless};
 ghost use Rattle.serde_json.specs.Find.{as_array};
 ghost use Rattle.serde_json.specs.View.{view};
 ghost use Rattle.field_values.specs.Members.{is_true};
 ghost use Rattle.field_values.specs.Results.{each_or_first_error};
 ghost use Rattle.field_values.specs.Reading.{is_field, text_of, bytes_of, single_of, list_of, value_of, field_of};
-ghost use Rattle.field_values.specs.Meant.{IsElement, IsMeant};
+ghost use Rattle.record_model.specs.ValueForms.{IsElement, IsMeant};
 
+use crate::FieldFault;
 use crate::members::member;
 use crate::numbers::read_whole;
 use crate::references::read_reference;
-use crate::shapes::{Shape, type_wanted};
-use crate::{FieldFault, Kind, Value, Values};
+use crate::shapes::type_wanted;
 use base64::DecodeAllocError;
 use base64::engine::general_purpose::STANDARD;
-use ck_base::{Bytes, Text, UserName, ZoneKey};
+use ck_base::{Bytes, Items, Text, UserName, ZoneKey};
+use record_model::{Kind, Shape, Value, Values};
 use serde_json::Value as Json;
-use sqlite_items::Items;
 use std::alloc::Global;
 
 /// The value of a field, or `None` where it is null. A field is an object with `value` and perhaps
@@ -76,7 +76,7 @@ fn read_text(alloc: Global, json: &Json) -> Result<Text, FieldFault>
 
 fn read_bytes(alloc: Global, json: &Json) -> Result<Bytes, FieldFault>
     ensures bytes { IsToldUnless FieldFault.NoMemory result (bytes_of (view json.now)) }
-    ensures meant { IfOk result IsBytes }
+    ensures meant { IfOk result AreBytes }
 {
     let Json::String(text) = json else {
         return Err(FieldFault::WrongValue);

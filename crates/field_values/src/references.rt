@@ -7,15 +7,14 @@ ghost use Rattle.field_values.specs.Members.{found};
 ghost use Rattle.field_values.specs.declared.fault.FieldFault.TheVariants.{WrongValue as WrongName};
 ghost use Rattle.field_values.specs.References.{action_name, action_named, action_in, name_in, is_text, is_owner, is_here, reference_of};
 
+use crate::FieldFault;
 use crate::members::member;
 use crate::names::name_in;
-use crate::{Action, FieldFault, RefTo};
+use ck_base::known::DEFAULT_OWNER;
 use ck_base::{RecordName, UserName, ZoneKey};
+use record_model::{Action, RefTo};
 use serde_json::Value as Json;
 use std::alloc::Global;
-
-/// The owner that stands for the caller.
-const CALLER: &str = "__defaultOwner__";
 
 const ACTIONS: [Action; 3] = [Action::Plain, Action::DeleteSelf, Action::Validate];
 
@@ -61,7 +60,7 @@ fn is_text(text: &[u8], json: Option<&Json>) -> bool
 fn is_owner(owner: &UserName, caller: &UserName, json: Option<&Json>) -> bool
     ensures { result ≡ is_owner owner.now caller.now (option_map (λ v. view v.now) json.entry) }
 {
-    if json.is_none() || is_text(CALLER.as_bytes(), json) {
+    if json.is_none() || is_text(DEFAULT_OWNER.as_bytes(), json) {
         caller.as_bytes() == owner.as_bytes()
     } else {
         is_text(owner.as_bytes(), json)

@@ -4,16 +4,10 @@ ghost use Rattle.std.specs.List.{list_any, list_all};
 ghost use Rattle.serde_json.specs.View.{view, items_view};
 ghost use Rattle.field_values.specs.Types.{type_name, type_named, kind_shown, is_array, first_kind, shows_only, one_kind, shows_no_list, list_shown, type_shown, type_wanted};
 
+use crate::FieldFault;
 use crate::members::member;
-use crate::{FieldFault, Kind};
+use record_model::{Kind, Shape};
 use serde_json::Value as Json;
-
-/// The type of a field: a single value of a kind, or a list of such values.
-#[derive(Clone, Copy, Debug, PartialEq, Eq)]
-pub(crate) enum Shape {
-    Single(Kind),
-    ListOf(Kind),
-}
 
 const SHAPES: [Shape; 10] = [
     Shape::Single(Kind::Int64),

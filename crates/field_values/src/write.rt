@@ -2,13 +2,14 @@
 ghost use Rattle.std.specs.Prelude.{◌≡◌, IfOk, map};
 ghost use Rattle.serde_json.specs.View.{view, items_of};
 ghost use Rattle.field_values.specs.References.{action_name as name_of_action};
-ghost use Rattle.field_values.specs.Writing.{shape_of, number_data, reference_data, value_data, field_data};
+ghost use Rattle.record_model.specs.Shapes.{shape_of};
+ghost use Rattle.field_values.specs.Writing.{number_data, reference_data, value_data, field_data};
 
 use crate::references::action_name;
-use crate::shapes::{Shape, type_name};
-use crate::{Kind, RefTo, Value};
+use crate::shapes::type_name;
 use base64::engine::general_purpose::STANDARD;
 use ck_base::NoMemory;
+use record_model::{Kind, RefTo, Shape, Value};
 use serde_json::{Value as Json, json};
 use std::alloc::{AllocError, Global};
 

@@ -48,7 +48,7 @@ pub record HasHead (bytes : List ℕ) (stated : Result ℕ FrontFault) : Type 0 
   pub reads : ReadsHead bytes head rest
   pub says : body_length head ≡ stated
 
--- The bytes may yet become a request: the limits of a head are not reached and no head ended, nor is it a bad one; or there is a head,
+-- The bytes do not yet say what stands there: the limits of a head are not reached and no head ended, nor is it a bad one; or there is a head,
 -- and behind it less than its body.
 pub data IsUnfinished (bytes : List ℕ) : Type 0 where
   in_head : length bytes < most_head → line_feeds bytes < most_lines → HasNoHead bytes → (HasBadHead bytes → ⊥) → IsUnfinished bytes

@@ -1,8 +1,9 @@
 -- The table of users: what it holds, what a web token stands for, the text that it is written as, and what a text is read as.
-use Rattle.std.specs.Prelude.{◌≢◌, ℕ, ◌+◌, Bool, not, ◌&&◌, nat_le, ◌==◌, if◌then◌else◌, List, [], ◌∷◌, ◌++◌, length, map, IsTrue, Option, None, Some, Result, Ok, Err, codes}
+use Rattle.std.specs.Prelude.{◌≢◌, ℕ, ◌+◌, Bool, not, ◌&&◌, nat_le, ◌==◌, if◌then◌else◌, List, [], ◌∷◌, ◌++◌, length, map, IsTrue, Option, None, Some, Result, Ok, Err}
 use Rattle.std.specs.Option.{is_none, option_map}
 use Rattle.std.specs.List.{find, list_all, flat_map, join_with_byte, slice_split, AllPass, IsDistinct}
 use Rattle.std.specs.Str.{bytes_eq}
+use Rattle.ck_base.specs.KnownNames.{default_owner}
 pub use Rattle.http_front.specs.Environments.{is_environment}
 use Rattle.http_front.specs.declared.users.UsersFault.{UsersFault}
 use Rattle.http_front.specs.declared.users.UsersFault.TheVariants.{BadLine}
@@ -28,7 +29,7 @@ is_part bytes = nat_le 1 (length bytes) && nat_le (length bytes) 255 && list_all
 
 -- a part that may name a user
 abbrev pub is_user : List ℕ → Bool
-is_user bytes = is_part bytes && not (bytes_eq bytes (codes "__defaultOwner__"))
+is_user bytes = is_part bytes && not (bytes_eq bytes default_owner)
 
 -- the web tokens of the pairs
 abbrev pub tokens_of : List (List ℕ × List ℕ) → List (List ℕ)

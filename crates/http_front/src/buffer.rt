@@ -41,7 +41,7 @@ impl Buffer {
     }
 
     /// The bytes, borrowed.
-    pub(crate) fn as_slice(&self) -> &[u8]
+    pub fn as_slice(&self) -> &[u8]
         ensures { result.now ≡ self.now }
     {
         &self.bytes[self.taken..]

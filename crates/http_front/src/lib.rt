@@ -28,14 +28,3 @@ pub use reply::{WriteFault, write_reply};
 pub use request::Request;
 pub use route::{RouteFault, route_of};
 pub use users::{Users, UsersFault, read_users};
-
-#[cfg(test)]
-mod caller_tests;
-#[cfg(test)]
-mod reply_tests;
-#[cfg(test)]
-mod route_tests;
-#[cfg(test)]
-mod tests;
-#[cfg(test)]
-mod users_tests;

@@ -6,6 +6,7 @@ ghost use Rattle.ck_base.specs.Told.{IsToldUnless};
 ghost use Rattle.http_front.specs.Users.{is_part, is_part_byte, is_environment, is_user, user_of_token, pieces_at, lines_of, parts_of, opening_of, pair_of, users_of, table_of, table_text, IsTable, IsNoTable};
 
 use crate::cuts::place_of;
+use ck_base::known::DEFAULT_OWNER;
 use ck_base::{Bytes, Items, NameFault, NoMemory, UserName, user_name};
 use std::alloc::{AllocError, AllocFailed, Global};
 use std::marker::Model;
@@ -219,7 +220,7 @@ pub(crate) fn is_environment(bytes: &[u8]) -> bool
 fn is_user(bytes: &[u8]) -> bool
     ensures { result ≡ is_user bytes.now }
 {
-    is_part(bytes) && bytes != b"__defaultOwner__".as_slice()
+    is_part(bytes) && bytes != DEFAULT_OWNER.as_bytes()
 }
 
 fn is_part(bytes: &[u8]) -> bool

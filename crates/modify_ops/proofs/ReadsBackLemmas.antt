@@ -6,16 +6,17 @@ use Rattle.std.specs.Result.{result_ok}
 use Rattle.ck_base.specs.Names.{IsName}
 use Rattle.ck_base.specs.declared.key.ZoneKey.{ZoneKey}
 use Rattle.field_values.proofs.ListLemmas.{elements_items}
-use Rattle.ck_records.specs.declared.draft.Draft.{Draft}
+use Rattle.record_model.specs.declared.draft.Draft.{Draft}
 use Rattle.ck_records.specs.DraftWriting.{draft_data}
 use Rattle.ck_records.proofs.ReadsBackLemmas.{name_told, drafts_read_back}
 use Rattle.zone_model.specs.declared.operations.OpKind.{OpKind}
 use Rattle.zone_model.specs.declared.operations.OpKind.TheVariants.{Create, Update, ForceUpdate, Replace, ForceReplace, Delete, ForceDelete}
 use Rattle.zone_model.specs.declared.operations.Op.{Op}
-use Rattle.modify_ops.specs.Kinds.{is_create}
-use Rattle.modify_ops.specs.Forms.{bare, deletion_of, draft_as, op_from, op_of, ops_from}
+use Rattle.zone_model.specs.Requests.{is_create}
+use Rattle.modify_ops.specs.Forms.{deletion_of, draft_as, op_from, op_of, ops_from}
 use Rattle.modify_ops.specs.Writing.{op_data}
-use Rattle.modify_ops.specs.Meant.{IsBare, IsMeantAs, IsMeantOp, OpsReadBack}
+use Rattle.zone_model.specs.OpForms.{bare, IsBare, IsMeantAs, IsMeantOp}
+use Rattle.modify_ops.specs.RoundTrip.{OpsReadBack}
 
 bare_reads : (name : List ℕ) (tag : Option (List ℕ)) → IsName name → deletion_of (draft_data (bare name tag)) ≡ Some (bare name tag)
 bare_reads name None is = rw (name_told name is) refl

@@ -6,19 +6,16 @@ use Rattle.serde_json.specs.Find.{as_str}
 use Rattle.ck_base.specs.declared.key.ZoneKey.{ZoneKey}
 use Rattle.field_values.specs.Members.{found}
 use Rattle.field_values.specs.References.{name_in}
-use Rattle.ck_records.specs.declared.draft.Draft.{Draft}
-use Rattle.ck_records.specs.declared.draft.ParentWish.TheVariants.{Absent}
+use Rattle.record_model.specs.declared.draft.Draft.{Draft}
 use Rattle.ck_records.specs.Reading.{tag_in, draft_of}
 use Rattle.ck_records.specs.Sequence.{◌>>=◌}
 use Rattle.zone_model.specs.declared.operations.OpKind.{OpKind}
 use Rattle.zone_model.specs.declared.operations.Op.{Op}
 use Rattle.modify_ops.specs.declared.fault.BadOps.{BadOps}
 use Rattle.modify_ops.specs.declared.fault.BadOps.TheVariants.{BadOp}
-use Rattle.modify_ops.specs.Kinds.{kind_named, is_deletion, is_create}
-
--- a draft with a name, and perhaps a change tag, alone
-abbrev pub bare : List ℕ → Option (List ℕ) → Draft
-bare name tag = record { name = Some name; rtype = None; tag = tag; parent = Absent; fields = []; for_root = None; public = None; participants = None }
+use Rattle.zone_model.specs.Requests.{is_deletion, is_create}
+use Rattle.zone_model.specs.OpForms.{bare}
+use Rattle.modify_ops.specs.Kinds.{kind_named}
 
 abbrev pub bare_of : Option (List ℕ) → Option (Option (List ℕ)) → Option Draft
 bare_of None tag = None

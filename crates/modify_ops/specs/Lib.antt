@@ -8,7 +8,8 @@ pub mod Names
 pub mod Reading
 -- the JSON of operations
 pub mod Writing
--- the operations that some JSON means, and reading what was written
-pub mod Meant
--- what random words are drawn for
-pub mod Drawing
+-- reading what was written
+pub mod RoundTrip
+-- the form of operations, and what random words are drawn for
+pub use Rattle.zone_model.specs.OpForms
+pub use Rattle.drawn_names.specs.Drawing

@@ -2,7 +2,7 @@
 use Rattle.std.specs.Prelude.{ℕ, Bool, false, if◌then◌else◌, List, [], ◌∷◌, ◌++◌, bytes_eq, Option, None, Some, option_map}
 use Rattle.std.specs.List.{list_any}
 use Rattle.std.specs.Option.{option_or, option_map_or}
-use Rattle.ck_records.specs.declared.draft.ForRoot.{ForRoot}
+use Rattle.record_model.specs.declared.draft.ForRoot.{ForRoot}
 use Rattle.zone_model.specs.declared.operations.Op.{Op}
 
 -- the root that the operation names for a share

@@ -1,6 +1,6 @@
 // The words of operations in JSON.
 ghost use Rattle.std.specs.Prelude.{◌≡◌};
-ghost use Rattle.modify_ops.specs.Kinds.{kind_name, kind_named, is_deletion};
+ghost use Rattle.modify_ops.specs.Kinds.{kind_name, kind_named};
 
 use crate::OpKind;
 
@@ -32,18 +32,4 @@ pub(crate) fn kind_named(name: &str) -> Option<OpKind>
     ensures { result ≡ kind_named name.now }
 {
     KINDS.iter().copied().find(|kind| kind_name(*kind) == name)
-}
-
-pub(crate) fn is_deletion(kind: OpKind) -> bool
-    ensures { result ≡ is_deletion kind }
-{
-    match kind {
-        OpKind::Create => false,
-        OpKind::Update => false,
-        OpKind::ForceUpdate => false,
-        OpKind::Replace => false,
-        OpKind::ForceReplace => false,
-        OpKind::Delete => true,
-        OpKind::ForceDelete => true,
-    }
 }

@@ -1,18 +1,15 @@
 //! The operations of requests on records: which ones JSON means, and their JSON.
 #![tactic(auto)]
 
-mod drawing;
 mod fault;
 mod form;
 mod kind;
 mod laws;
 mod names;
 mod read;
-#[cfg(test)]
-mod tests;
 mod write;
 
-pub use drawing::{draws_name, name_of_word, names_of, words_drawn, words_for};
+pub use drawn_names::{draws_name, name_of_word, names_of, words_drawn, words_for};
 pub use fault::BadOps;
 pub use form::read_op_list;
 pub use laws::ops_read_back;

@@ -4,7 +4,7 @@ ghost use Rattle.std.specs.List.{AllByRecursion};
 ghost use Rattle.serde_json.specs.View.{view};
 ghost use Rattle.ck_base.specs.Told.{IsToldUnless};
 ghost use Rattle.modify_ops.specs.Reading.{distinct, within, ops_of};
-ghost use Rattle.modify_ops.specs.Meant.{IsMeantOp};
+ghost use Rattle.zone_model.specs.OpForms.{IsMeantOp};
 
 use crate::form::read_each;
 use crate::{BadOps, Ops, named_again};

@@ -3,7 +3,7 @@ use crate::Permission;
 use ck_base::{Items, UserName};
 
 /// How someone came to be a participant of a share.
-#[derive(Clone, Copy, Debug, PartialEq, Eq, PartialOrd, Ord)]
+#[derive(Clone, Copy, Debug, PartialEq, Eq)]
 pub enum PartKind {
     /// The owner named this user, and gave a permission.
     Member,

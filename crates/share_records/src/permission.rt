@@ -2,7 +2,7 @@
 
 /// What someone may do with the records that a share covers, from the least to the most, as
 /// `publicPermission` in "Record Dictionary" of the CloudKit Web Services Reference.
-#[derive(Clone, Copy, Debug, PartialEq, Eq, PartialOrd, Ord)]
+#[derive(Clone, Copy, Debug, PartialEq, Eq)]
 pub enum Permission {
     /// Not even see them.
     Nothing,

@@ -12,7 +12,7 @@ use Rattle.http_front.specs.Users.{Table}
 use Rattle.talk_model.specs.declared.ends.End.{End}
 use Rattle.talk_model.specs.declared.ends.End.TheVariants.{Closed, CloseAsked, Cut, BadHead, HeadTooLong, NoLength, BodyTooLong, Spent, NotBuilt}
 use Rattle.talk_model.specs.declared.wants.Want.{Want}
-use Rattle.talk_model.specs.Requests.{Wanted, want_of, Wants, IsUnbuilt}
+use Rattle.talk_model.specs.Requests.{Meaning, want_of, Wants, IsUnbuilt}
 use Rattle.talk_model.specs.Connections.{most_requests, GoOn, AreOpen, AreClosing, LeavesAt, AreRequests}
 
 -- the end of a connection whose bytes are refused with this fault
@@ -30,7 +30,7 @@ data Behind (t : Table) (rest : List ℕ) (end : End) : Type 0 where
   refused : (f : FrontFault) → end ≡ end_of f → IsRefused rest f → Behind t rest end
   unbuilt : end ≡ NotBuilt → IsUnbuilt t rest → Behind t rest end
 
-data Leaves (t : Table) (ws : List Wanted) (rest : List ℕ) (end : End) : Type 0 where
+data Leaves (t : Table) (ws : List Meaning) (rest : List ℕ) (end : End) : Type 0 where
   are_open : AreOpen ws → Behind t rest end → Leaves t ws rest end
   closing : end ≡ CloseAsked → AreClosing ws → Leaves t ws rest end
   spent : end ≡ Spent → length ws ≡ most_requests → GoOn ws → Leaves t ws rest end
@@ -46,36 +46,36 @@ not_both q f p = cc
 
 -- ---- those that go on
 
-go_on-front : (before after : List Wanted) → GoOn (before ++ after) → GoOn before
+go_on-front : (before after : List Meaning) → GoOn (before ++ after) → GoOn before
 go_on-front [] after all = tt
 go_on-front (w ∷ before) after all = (all.0, go_on-front before after all.1)
 
-go_on-last : (before : List Wanted) (last : Wanted) → GoOn (before ++ last ∷ []) → last.close ≡ false
+go_on-last : (before : List Meaning) (last : Meaning) → GoOn (before ++ last ∷ []) → last.close ≡ false
 go_on-last [] last all = all.0
 go_on-last (w ∷ before) last all = go_on-last before last all.1
 
-not_going : (ws : List Wanted) → GoOn ws → AreClosing ws → ⊥
+not_going : (ws : List Meaning) → GoOn ws → AreClosing ws → ⊥
 not_going ws all c =
     let e : c.last.close ≡ false = go_on-last c.before c.last (subst GoOn c.parts all) in
     let k = c.closes in absurd (cc)
 
 -- a front of closing ones goes on
-closing-front : (before : List Wanted) (w : Wanted) (after last_before : List Wanted) (last : Wanted) → before ++ w ∷ after ≡ last_before ++ last ∷ [] → AreOpen last_before
+closing-front : (before : List Meaning) (w : Meaning) (after last_before : List Meaning) (last : Meaning) → before ++ w ∷ after ≡ last_before ++ last ∷ [] → AreOpen last_before
     → AreOpen before
 closing-front before w after last_before last parts o = record { few = few; go_on = shorter before w after last_before last parts o.go_on }
   where
     few : length before < most_requests
     few = omega (arith, o.few, ap length parts, length-append before (w ∷ after), length-append last_before (last ∷ []))
 
-    shorter : (before : List Wanted) (w : Wanted) (after last_before : List Wanted) (last : Wanted) → before ++ w ∷ after ≡ last_before ++ last ∷ [] → GoOn last_before → GoOn before
+    shorter : (before : List Meaning) (w : Meaning) (after last_before : List Meaning) (last : Meaning) → before ++ w ∷ after ≡ last_before ++ last ∷ [] → GoOn last_before → GoOn before
     shorter [] w after last_before last parts all = tt
     shorter (v ∷ before) w after [] last parts all = absurd (omega (arith, ap length parts, length-append before (w ∷ after)))
     shorter (v ∷ before) w after (u ∷ us) last parts all =
         let same : v ≡ u = cc in
-        (ap (λ (x : Wanted). x.close) same ∙ all.0, shorter before w after us last (cc) all.1)
+        (ap (λ (x : Meaning). x.close) same ∙ all.0, shorter before w after us last (cc) all.1)
 
 module _ (t : Table) where
-  leaves : (end : End) (ws : List Wanted) (rest : List ℕ) → LeavesAt t end ws rest → Leaves t ws rest end
+  leaves : (end : End) (ws : List Meaning) (rest : List ℕ) → LeavesAt t end ws rest → Leaves t ws rest end
   leaves Closed ws rest l = are_open l.0 (nothing refl l.1)
   leaves CloseAsked ws rest l = closing refl l
   leaves Cut ws rest l = are_open l.0 (cut refl l.1 l.2)
@@ -111,7 +111,7 @@ module _ (t : Table) where
   same_behind rest e f (unbuilt p r) (refused g q s) = absurd (not_both r.request g (say_one rest (Ok r.request) (Err g) r.has s))
   same_behind rest e f (unbuilt p r) (unbuilt q s) = p ∙ sym q
 
-  same_end : (ws : List Wanted) (rest : List ℕ) (e f : End) → Leaves t ws rest e → Leaves t ws rest f → e ≡ f
+  same_end : (ws : List Meaning) (rest : List ℕ) (e f : End) → Leaves t ws rest e → Leaves t ws rest f → e ≡ f
   same_end ws rest e f (are_open a r) (are_open b s) = same_behind rest e f r s
   same_end ws rest e f (are_open a r) (closing q c) = absurd (not_going ws a.go_on c)
   same_end ws rest e f (are_open a r) (spent q n all) = absurd (omega (arith, a.few, n))
@@ -123,7 +123,7 @@ module _ (t : Table) where
   same_end ws rest e f (spent p n all) (spent q m both) = p ∙ sym q
 
   -- before a further request there may be one
-  open_before : (before : List Wanted) (w : Wanted) (after : List Wanted) (rest : List ℕ) (e : End) → Leaves t (before ++ w ∷ after) rest e → AreOpen before
+  open_before : (before : List Meaning) (w : Meaning) (after : List Meaning) (rest : List ℕ) (e : End) → Leaves t (before ++ w ∷ after) rest e → AreOpen before
   open_before before w after rest e (are_open a r) = record {
     few = omega (arith, a.few, length-append before (w ∷ after));
     go_on = go_on-front before (w ∷ after) a.go_on;
@@ -135,14 +135,14 @@ module _ (t : Table) where
   }
 
   -- a request that stands at the front of bytes
-  abbrev has_front : (bytes after rest : List ℕ) (w : Wanted) → (k : Wants t bytes w) → rest ≡ bytes ++ after → HasRequest rest k.request
+  abbrev has_front : (bytes after rest : List ℕ) (w : Meaning) → (k : Wants t bytes w) → rest ≡ bytes ++ after → HasRequest rest k.request
   has_front bytes after rest w k is = record { front = bytes; rest = after; parts = is; is = k.is }
 
   some_is_none : (w : Want) → None ≡ Some w → ⊥
   some_is_none w e = cc
 
   -- where a further request stands, the bytes did not end there
-  none_left : (before : List Wanted) (e : End) (bytes after rest : List ℕ) (w : Wanted) → AreOpen before → Wants t bytes w → rest ≡ bytes ++ after → Leaves t before rest e → ⊥
+  none_left : (before : List Meaning) (e : End) (bytes after rest : List ℕ) (w : Meaning) → AreOpen before → Wants t bytes w → rest ≡ bytes ++ after → Leaves t before rest e → ⊥
   none_left before e bytes after rest w o k is (are_open a (nothing p r)) = wait_unsaid rest (Ok k.request) (has_front bytes after rest w k is) (nothing_waits rest r)
   none_left before e bytes after rest w o k is (are_open a (cut p some r)) = wait_unsaid rest (Ok k.request) (has_front bytes after rest w k is) r
   none_left before e bytes after rest w o k is (are_open a (refused g p r)) = not_both k.request g (say_one rest (Ok k.request) (Err g) (has_front bytes after rest w k is) r)
@@ -156,7 +156,7 @@ module _ (t : Table) where
   some_is v w e = cc
 
   -- at the front of bytes stands one request, of which one thing is wanted
-  one_request : (r s after others all : List ℕ) (v w : Wanted) → Wants t r v → Wants t s w → all ≡ r ++ after → all ≡ s ++ others → (v ≡ w) × (r ≡ s)
+  one_request : (r s after others all : List ℕ) (v w : Meaning) → Wants t r v → Wants t s w → all ≡ r ++ after → all ≡ s ++ others → (v ≡ w) × (r ≡ s)
   one_request r s after others all v w k l left right =
       let x = has_front r after all v k left in
       let y = has_front s others all w l right in
@@ -166,7 +166,7 @@ module _ (t : Table) where
       ((λ i. record { close = close i; want = want i }), cut_one all k.request l.request x y)
 
   module _ (e f : End) where
-    same : (before : List Wanted) (rs ss : List (List ℕ)) (vs ws : List Wanted) (p q : List ℕ) → AllZip (Wants t) rs vs → AllZip (Wants t) ss ws
+    same : (before : List Meaning) (rs ss : List (List ℕ)) (vs ws : List Meaning) (p q : List ℕ) → AllZip (Wants t) rs vs → AllZip (Wants t) ss ws
         → Leaves t (before ++ vs) p e → Leaves t (before ++ ws) q f → concat rs ++ p ≡ concat ss ++ q → (vs ≡ ws) × (e ≡ f)
     same before [] [] [] [] p q k l a b is = (refl, same_end (before ++ []) p e f a (subst (λ r. Leaves t (before ++ []) r f) (sym is) b))
     same before [] (s ∷ ss) [] (w ∷ ws) p q k l a b is =
@@ -190,12 +190,12 @@ module _ (t : Table) where
     same before (r ∷ rs) (s ∷ ss) (v ∷ vs) [] p q k l a b is = absurd l
 
   -- the bytes determine what is wanted, and the end
-  pub one_reading : (bytes : List ℕ) (vs ws : List Wanted) (e f : End) → AreRequests t bytes vs e → AreRequests t bytes ws f → (vs ≡ ws) × (e ≡ f)
+  pub one_reading : (bytes : List ℕ) (vs ws : List Meaning) (e f : End) → AreRequests t bytes vs e → AreRequests t bytes ws f → (vs ≡ ws) × (e ≡ f)
   one_reading bytes vs ws e f a b =
       same e f [] a.requests b.requests vs ws a.rest b.rest a.each b.each (leaves e vs a.rest a.leaves) (leaves f ws b.rest b.leaves) (sym a.bytes_are ∙ b.bytes_are)
 
   -- more bytes behind
-  more : (end : End) (bytes after : List ℕ) (ws : List Wanted) → ((rest : List ℕ) → LeavesAt t end ws rest → LeavesAt t end ws (rest ++ after)) → AreRequests t bytes ws end → AreRequests t (bytes ++ after) ws end
+  more : (end : End) (bytes after : List ℕ) (ws : List Meaning) → ((rest : List ℕ) → LeavesAt t end ws rest → LeavesAt t end ws (rest ++ after)) → AreRequests t bytes ws end → AreRequests t (bytes ++ after) ws end
   more end bytes after ws stays a = record {
     requests = a.requests;
     rest = a.rest ++ after;
@@ -207,23 +207,23 @@ module _ (t : Table) where
   pub unbuilt_more : (bytes after : List ℕ) → IsUnbuilt t bytes → IsUnbuilt t (bytes ++ after)
   unbuilt_more bytes after u = record { request = u.request; has = stay_said bytes after (Ok u.request) u.has; want = u.want }
 
-  pub close_asked_more : (bytes after : List ℕ) (ws : List Wanted) → AreRequests t bytes ws CloseAsked → AreRequests t (bytes ++ after) ws CloseAsked
+  pub close_asked_more : (bytes after : List ℕ) (ws : List Meaning) → AreRequests t bytes ws CloseAsked → AreRequests t (bytes ++ after) ws CloseAsked
   close_asked_more bytes after ws a = more CloseAsked bytes after ws (λ rest l. l) a
 
-  pub bad_head_more : (bytes after : List ℕ) (ws : List Wanted) → AreRequests t bytes ws BadHead → AreRequests t (bytes ++ after) ws BadHead
+  pub bad_head_more : (bytes after : List ℕ) (ws : List Meaning) → AreRequests t bytes ws BadHead → AreRequests t (bytes ++ after) ws BadHead
   bad_head_more bytes after ws a = more BadHead bytes after ws (λ rest l. (l.0, heads_stay.bad_head rest after l.1)) a
 
-  pub long_head_more : (bytes after : List ℕ) (ws : List Wanted) → AreRequests t bytes ws HeadTooLong → AreRequests t (bytes ++ after) ws HeadTooLong
+  pub long_head_more : (bytes after : List ℕ) (ws : List Meaning) → AreRequests t bytes ws HeadTooLong → AreRequests t (bytes ++ after) ws HeadTooLong
   long_head_more bytes after ws a = more HeadTooLong bytes after ws (λ rest l. (l.0, heads_stay.long_head rest after l.1)) a
 
-  pub no_length_more : (bytes after : List ℕ) (ws : List Wanted) → AreRequests t bytes ws NoLength → AreRequests t (bytes ++ after) ws NoLength
+  pub no_length_more : (bytes after : List ℕ) (ws : List Meaning) → AreRequests t bytes ws NoLength → AreRequests t (bytes ++ after) ws NoLength
   no_length_more bytes after ws a = more NoLength bytes after ws (λ rest l. (l.0, heads_stay.head rest after (Err fault.NoLength) l.1)) a
 
-  pub long_body_more : (bytes after : List ℕ) (ws : List Wanted) → AreRequests t bytes ws BodyTooLong → AreRequests t (bytes ++ after) ws BodyTooLong
+  pub long_body_more : (bytes after : List ℕ) (ws : List Meaning) → AreRequests t bytes ws BodyTooLong → AreRequests t (bytes ++ after) ws BodyTooLong
   long_body_more bytes after ws a = more BodyTooLong bytes after ws (λ rest l. (l.0, heads_stay.head rest after (Err fault.BodyTooLong) l.1)) a
 
-  pub spent_more : (bytes after : List ℕ) (ws : List Wanted) → AreRequests t bytes ws Spent → AreRequests t (bytes ++ after) ws Spent
+  pub spent_more : (bytes after : List ℕ) (ws : List Meaning) → AreRequests t bytes ws Spent → AreRequests t (bytes ++ after) ws Spent
   spent_more bytes after ws a = more Spent bytes after ws (λ rest l. l) a
 
-  pub not_built_more : (bytes after : List ℕ) (ws : List Wanted) → AreRequests t bytes ws NotBuilt → AreRequests t (bytes ++ after) ws NotBuilt
+  pub not_built_more : (bytes after : List ℕ) (ws : List Meaning) → AreRequests t bytes ws NotBuilt → AreRequests t (bytes ++ after) ws NotBuilt
   not_built_more bytes after ws a = more NotBuilt bytes after ws (λ rest l. (l.0, unbuilt_more rest after l.1)) a

@@ -9,9 +9,9 @@ use Rattle.zone_model.specs.Histories.{Histories, IsFront, Grows}
 use Rattle.board_model.specs.Asks.{sight, answer, made, makes, commits_by}
 use Rattle.talk_model.specs.declared.marks.At.{At}
 use Rattle.talk_model.specs.declared.marks.Mark.{Mark}
-use Rattle.talk_model.specs.Requests.{Wanted}
+use Rattle.talk_model.specs.Requests.{Meaning}
 use Rattle.talk_model.specs.Given.{given_of}
-use Rattle.talk_model.specs.Calls.{Asked, asks_of, reply_of}
+use Rattle.talk_model.specs.Calls.{Ask, asks_of, reply_of}
 use Rattle.talk_model.specs.Marks.{SeatsStay, base_of, IsAtOf, IsMarkOf, AreMarksOf, marked_by, marked}
 use Rattle.talk_model.specs.Talk.{answers_at, talk}
 
@@ -34,7 +34,7 @@ module _ (old new : ℕ → Option ℕ) (entry h now : Histories Event) (grown :
   base-grown : (at : At) → at.len ≤ length (h at.lock) → base_of now at ≡ base_of h at
   base-grown at le = front-take _ (h at.lock) (now at.lock) (grown at.lock) (omega arith)
 
-  at-grown : (at : At) (a : Asked) → IsAtOf old entry h at a → IsAtOf new entry now at a
+  at-grown : (at : At) (a : Ask) → IsAtOf old entry h at a → IsAtOf new entry now at a
   at-grown at a k =
       let same = base-grown at k.within in
       record {
@@ -48,22 +48,22 @@ module _ (old new : ℕ → Option ℕ) (entry h now : Histories Event) (grown :
         event_is = front-take at.len (h at.lock) (now at.lock) (grown at.lock) k.within ∙ (k.event_is ∙ ap (λ (b : List Event). b ++ made k.seat b a.part) (sym same));
       }
 
-  ats-grown : (ats : List At) (askeds : List Asked) → AllZip (IsAtOf old entry h) ats askeds → AllZip (IsAtOf new entry now) ats askeds
+  ats-grown : (ats : List At) (askeds : List Ask) → AllZip (IsAtOf old entry h) ats askeds → AllZip (IsAtOf new entry now) ats askeds
   ats-grown [] [] k = tt
   ats-grown [] (a ∷ askeds) k = k
   ats-grown (at ∷ ats) [] k = k
   ats-grown (at ∷ ats) (a ∷ askeds) k = (at-grown at a k.0, ats-grown ats askeds k.1)
 
-  mark-grown : (number : ℕ) (m : Mark) (w : Wanted) → IsMarkOf old number entry h m w → IsMarkOf new number entry now m w
+  mark-grown : (number : ℕ) (m : Mark) (w : Meaning) → IsMarkOf old number entry h m w → IsMarkOf new number entry now m w
   mark-grown number m w k = record { request = k.request; words = k.words; asks = ats-grown m.asks.items (asks_of w (given_of m)) k.asks }
 
-  pub marks-grown : (number : ℕ) (marks : List Mark) (ws : List Wanted) → AreMarksOf old number entry h marks ws → AreMarksOf new number entry now marks ws
+  pub marks-grown : (number : ℕ) (marks : List Mark) (ws : List Meaning) → AreMarksOf old number entry h marks ws → AreMarksOf new number entry now marks ws
   marks-grown number [] [] k = tt
   marks-grown number [] (w ∷ ws) k = k
   marks-grown number (m ∷ marks) [] k = k
   marks-grown number (m ∷ marks) (w ∷ ws) k = (mark-grown number m w k.0, marks-grown (suc number) marks ws k.1)
 
-  answers-grown : (ats : List At) (askeds : List Asked) → AllZip (IsAtOf old entry h) ats askeds → answers_at now ats askeds ≡ answers_at h ats askeds
+  answers-grown : (ats : List At) (askeds : List Ask) → AllZip (IsAtOf old entry h) ats askeds → answers_at now ats askeds ≡ answers_at h ats askeds
   answers-grown [] [] k = refl
   answers-grown [] (a ∷ askeds) k = refl
   answers-grown (at ∷ ats) [] k = refl
@@ -71,7 +71,7 @@ module _ (old new : ℕ → Option ℕ) (entry h now : Histories Event) (grown :
       let same = base-grown at (k.0).within in
       λ i. answer (sight (same i) a.part) a.part ∷ answers-grown ats askeds k.1 i
 
-  pub talk-grown : (number : ℕ) (marks : List Mark) (ws : List Wanted) → AreMarksOf old number entry h marks ws → talk ws marks now ≡ talk ws marks h
+  pub talk-grown : (number : ℕ) (marks : List Mark) (ws : List Meaning) → AreMarksOf old number entry h marks ws → talk ws marks now ≡ talk ws marks h
   talk-grown number [] [] k = refl
   talk-grown number [] (w ∷ ws) k = refl
   talk-grown number (m ∷ marks) [] k = refl

@@ -6,9 +6,9 @@ use Rattle.zone_model.specs.declared.events.Event.{Event}
 use Rattle.zone_model.specs.Histories.{Histories}
 use Rattle.talk_model.specs.declared.marks.At.{At}
 use Rattle.talk_model.specs.declared.marks.Mark.{Mark}
-use Rattle.talk_model.specs.Requests.{Wanted}
+use Rattle.talk_model.specs.Requests.{Meaning}
 use Rattle.talk_model.specs.Given.{given_of, givens_of}
-use Rattle.talk_model.specs.Calls.{Asked, asks_of}
+use Rattle.talk_model.specs.Calls.{Ask, asks_of}
 use Rattle.talk_model.specs.Marks.{IsAtOf, IsMarkOf, AreMarksOf, asks_in, NotBefore, AreInOrder, marked_by, marked}
 use Rattle.talk_model.specs.Talk.{reply_at, talk}
 
@@ -52,14 +52,14 @@ marked-snoc lock events (a ∷ ats) at =
     ap (λ l. marked_by lock events a ++ l) (marked-snoc lock events ats at) ∙ sym (append_assoc (marked_by lock events a) (marked lock events ats) (marked_by lock events at))
 
 module _ (seats : ℕ → Option ℕ) (entry h : Histories Event) where
-  pub marks-snoc : (number last : ℕ) (marks : List Mark) (ws : List Wanted) (m : Mark) (w : Wanted) → last ≡ number + length marks
+  pub marks-snoc : (number last : ℕ) (marks : List Mark) (ws : List Meaning) (m : Mark) (w : Meaning) → last ≡ number + length marks
       → AreMarksOf seats number entry h marks ws → IsMarkOf seats last entry h m w → AreMarksOf seats number entry h (marks ++ m ∷ []) (ws ++ w ∷ [])
   marks-snoc number last [] [] m w e k p = let same : last ≡ number = omega arith in (subst (λ (n : ℕ). IsMarkOf seats n entry h m w) same p, tt)
   marks-snoc number last [] (v ∷ ws) m w e k p = absurd k
   marks-snoc number last (a ∷ marks) [] m w e k p = absurd k
   marks-snoc number last (a ∷ marks) (v ∷ ws) m w e k p = (k.0, marks-snoc (suc number) last marks ws m w (omega arith) k.1 p)
 
-  pub talk-snoc : (number : ℕ) (marks : List Mark) (ws : List Wanted) (m : Mark) (w : Wanted)
+  pub talk-snoc : (number : ℕ) (marks : List Mark) (ws : List Meaning) (m : Mark) (w : Meaning)
       → AreMarksOf seats number entry h marks ws → talk (ws ++ w ∷ []) (marks ++ m ∷ []) h ≡ talk ws marks h ++ reply_at h m w
   talk-snoc number [] [] m w k = append-nil (reply_at h m w)
   talk-snoc number [] (v ∷ ws) m w k = absurd k
@@ -67,19 +67,19 @@ module _ (seats : ℕ → Option ℕ) (entry h : Histories Event) where
   talk-snoc number (a ∷ marks) (v ∷ ws) m w k = ap (λ t. reply_at h a v ++ t) (talk-snoc (suc number) marks ws m w k.1) ∙ sym (append_assoc (reply_at h a v) (talk ws marks h) (reply_at h m w))
 
   -- as many marks as requests
-  pub marks-length : (number : ℕ) (marks : List Mark) (ws : List Wanted) → AreMarksOf seats number entry h marks ws → length marks ≡ length ws
+  pub marks-length : (number : ℕ) (marks : List Mark) (ws : List Meaning) → AreMarksOf seats number entry h marks ws → length marks ≡ length ws
   marks-length number [] [] k = refl
   marks-length number [] (w ∷ ws) k = absurd k
   marks-length number (m ∷ marks) [] k = absurd k
   marks-length number (m ∷ marks) (w ∷ ws) k = ap suc (marks-length (suc number) marks ws k.1)
 
-  ats-within : (ats : List At) (askeds : List Asked) → AllZip (IsAtOf seats entry h) ats askeds → AllByRecursion (λ (at : At). at.len ≤ length (h at.lock)) ats
+  ats-within : (ats : List At) (askeds : List Ask) → AllZip (IsAtOf seats entry h) ats askeds → AllByRecursion (λ (at : At). at.len ≤ length (h at.lock)) ats
   ats-within [] askeds k = tt
   ats-within (at ∷ ats) [] k = absurd k
   ats-within (at ∷ ats) (a ∷ askeds) k = ((k.0).within, ats-within ats askeds k.1)
 
   -- each ask of the marks lies within the histories
-  pub marks-within : (number : ℕ) (marks : List Mark) (ws : List Wanted) → AreMarksOf seats number entry h marks ws → AllByRecursion (λ (at : At). at.len ≤ length (h at.lock)) (asks_in marks)
+  pub marks-within : (number : ℕ) (marks : List Mark) (ws : List Meaning) → AreMarksOf seats number entry h marks ws → AllByRecursion (λ (at : At). at.len ≤ length (h at.lock)) (asks_in marks)
   marks-within number [] ws k = tt
   marks-within number (m ∷ marks) [] k = absurd k
   marks-within number (m ∷ marks) (w ∷ ws) k = all-append _ m.asks.items (asks_in marks) (ats-within m.asks.items (asks_of w (given_of m)) (k.0).asks) (marks-within (suc number) marks ws k.1)

@@ -13,7 +13,7 @@ use Rattle.http_front.specs.Users.{Table}
 use Rattle.talk_model.specs.declared.ends.End.{End}
 use Rattle.talk_model.specs.declared.ends.End.TheVariants.{Closed, CloseAsked, NotBuilt}
 use Rattle.talk_model.specs.declared.wants.Want.{Want}
-use Rattle.talk_model.specs.Requests.{Wanted, want_of, Wants, IsUnbuilt}
+use Rattle.talk_model.specs.Requests.{Meaning, want_of, Wants, IsUnbuilt}
 use Rattle.talk_model.specs.Connections.{most_requests, GoOn, LeavesAt, AreRequests, last_text}
 use Rattle.talk_model.specs.WholeConnections.{AreWhole, or_spent, wanted_of, end_of, answered, end_behind, IsGoodEnd}
 use Rattle.talk_model.specs.ConnectionLaws.{WholeOnesEnd}
@@ -31,18 +31,18 @@ zip-take R (suc n) (x ∷ xs) (y ∷ ys) k = (k.0, zip-take R n xs ys k.1)
 module _ (t : Table) where
   -- ---- why no further request is answered
 
-  data Stops (end : End) (ws : List Wanted) (behind : List (List ℕ)) (count : ℕ) : Type 0 where
+  data Stops (end : End) (ws : List Meaning) (behind : List (List ℕ)) (count : ℕ) : Type 0 where
     none_more : end ≡ Closed → GoOn ws → length ws ≡ count → behind ≡ [] → Stops end ws behind count
     unbuilt : end ≡ NotBuilt → GoOn ws → length ws < count → IsUnbuilt t (concat behind) → Stops end ws behind count
-    closes : end ≡ CloseAsked → (before : List Wanted) → (last : Wanted) → ws ≡ before ++ last ∷ [] → GoOn before → last.close ≡ true → length ws ≤ count → Stops end ws behind count
+    closes : end ≡ CloseAsked → (before : List Meaning) → (last : Meaning) → ws ≡ before ++ last ∷ [] → GoOn before → last.close ≡ true → length ws ≤ count → Stops end ws behind count
 
-  stops_on : (w : Wanted) (end : End) (ws : List Wanted) (behind : List (List ℕ)) (count : ℕ) → w.close ≡ false → Stops end ws behind count → Stops end (w ∷ ws) behind (suc count)
+  stops_on : (w : Meaning) (end : End) (ws : List Meaning) (behind : List (List ℕ)) (count : ℕ) → w.close ≡ false → Stops end ws behind count → Stops end (w ∷ ws) behind (suc count)
   stops_on w end ws behind count stays (none_more is all same none) = none_more is (stays, all) (ap suc same) none
   stops_on w end ws behind count stays (unbuilt is all few u) = unbuilt is (stays, all) (omega (arith, few)) u
-  stops_on w end ws behind count stays (closes is before last parts all asks few) = closes is (w ∷ before) last (ap (λ (vs : List Wanted). w ∷ vs) parts) (stays, all) asks (omega (arith, few))
+  stops_on w end ws behind count stays (closes is before last parts all asks few) = closes is (w ∷ before) last (ap (λ (vs : List Meaning). w ∷ vs) parts) (stays, all) asks (omega (arith, few))
 
   -- those that are answered, and the bytes of those behind them
-  record Reading (pieces : List (List ℕ)) (ws : List Wanted) (end : End) (count : ℕ) : Type 0 where
+  record Reading (pieces : List (List ℕ)) (ws : List Meaning) (end : End) (count : ℕ) : Type 0 where
     front : List (List ℕ)
     behind : List (List ℕ)
     parts : pieces ≡ front ++ behind
@@ -114,7 +114,7 @@ module _ (t : Table) where
         ap (λ (b : List (List ℕ)). concat b ++ concat others) none
         ∙ ap concat (drop_all most_requests w.pieces (omega (arith, AllZip-long IsRequest w.pieces rs w.each, short)))
 
-    leaves : (full : Bool) → nat_le most_requests (length rs) ≡ full → (end : End) (ws : List Wanted) (behind : List (List ℕ)) → Stops end ws behind (length some)
+    leaves : (full : Bool) → nat_le most_requests (length rs) ≡ full → (end : End) (ws : List Meaning) (behind : List (List ℕ)) → Stops end ws behind (length some)
         → LeavesAt t (or_spent full end) ws (concat behind ++ concat others)
     leaves true long end ws behind (none_more is all same none) =
         let reached : most_requests ≤ length rs = leb-true most_requests (length rs) long in

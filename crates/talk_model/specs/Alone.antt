@@ -5,32 +5,32 @@ use Rattle.zone_model.specs.declared.events.Event.{Event}
 use Rattle.zone_model.specs.Histories.{Histories}
 use Rattle.board_model.specs.declared.answers.Answer.{Answer}
 use Rattle.board_model.specs.Asks.{sight, answer, made}
-use Rattle.talk_model.specs.Requests.{Wanted}
+use Rattle.talk_model.specs.Requests.{Meaning}
 use Rattle.talk_model.specs.Given.{Given}
-use Rattle.talk_model.specs.Calls.{Asked, asks_of, reply_of}
+use Rattle.talk_model.specs.Calls.{Ask, asks_of, reply_of}
 
 -- the histories after an ask
-abbrev pub after_ask : Histories Event → Asked → Histories Event
+abbrev pub after_ask : Histories Event → Ask → Histories Event
 after_ask h a lock = if lock == a.lock then h lock ++ made 0 (h lock) a.part else h lock
 
 -- the histories after asks, one after another
-abbrev pub after_asks : Histories Event → List Asked → Histories Event
+abbrev pub after_asks : Histories Event → List Ask → Histories Event
 after_asks h [] = h
 after_asks h (a ∷ askeds) = after_asks (after_ask h a) askeds
 
 -- the answers to asks, one after another
-abbrev pub answers_alone : Histories Event → List Asked → List Answer
+abbrev pub answers_alone : Histories Event → List Ask → List Answer
 answers_alone h [] = []
 answers_alone h (a ∷ askeds) = answer (sight (h a.lock) a.part) a.part ∷ answers_alone (after_ask h a) askeds
 
 -- the histories after requests for which these were given
-abbrev pub after_all : Histories Event → List Wanted → List Given → Histories Event
+abbrev pub after_all : Histories Event → List Meaning → List Given → Histories Event
 after_all h [] given = h
 after_all h (w ∷ ws) [] = h
 after_all h (w ∷ ws) (g ∷ given) = after_all (after_asks h (asks_of w g)) ws given
 
 -- the replies to them
-abbrev pub alone_text : Histories Event → List Wanted → List Given → List ℕ
+abbrev pub alone_text : Histories Event → List Meaning → List Given → List ℕ
 alone_text h [] given = []
 alone_text h (w ∷ ws) [] = []
 alone_text h (w ∷ ws) (g ∷ given) =

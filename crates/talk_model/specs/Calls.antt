@@ -7,13 +7,13 @@ use Rattle.ck_base.specs.declared.scope.Scope.{Scope}
 use Rattle.ck_base.specs.declared.scope.Scope.TheVariants as scope
 use Rattle.ck_base.specs.declared.route.Database.{Database}
 use Rattle.ck_base.specs.declared.route.Database.TheVariants.{Private, Shared, Public}
-use Rattle.ck_records.specs.declared.records.Record.{Record}
-use Rattle.ck_records.specs.Cutting.{cut}
+use Rattle.record_model.specs.declared.records.Record.{Record}
+use Rattle.record_model.specs.Cutting.{cut}
 use Rattle.zone_model.specs.declared.outcomes.OpFault.{OpFault}
 use Rattle.zone_model.specs.declared.outcomes.OpFault.TheVariants as fault
 use Rattle.zone_model.specs.declared.outcomes.Outcome.{Outcome}
 use Rattle.zone_model.specs.declared.outcomes.Outcome.TheVariants.{Put, Deleted, Refused as RefusedOp}
-use Rattle.modify_ops.specs.Drawing.{names_of}
+use Rattle.drawn_names.specs.Drawing.{names_of}
 use Rattle.board_model.specs.declared.parts.Part.{Part}
 use Rattle.board_model.specs.declared.parts.Part.TheVariants as part
 use Rattle.board_model.specs.declared.answers.Answer.{Answer}
@@ -32,13 +32,13 @@ use Rattle.wire_calls.specs.Replies.{reply_data, reply_status}
 use Rattle.http_front.specs.Replies.{reply_text}
 use Rattle.talk_model.specs.declared.wants.Want.{Want}
 use Rattle.talk_model.specs.declared.wants.Want.TheVariants.{Refused as RefusedWant, Called}
-use Rattle.talk_model.specs.Requests.{Wanted}
+use Rattle.talk_model.specs.Requests.{Meaning}
 use Rattle.talk_model.specs.Given.{Given}
 
 -- ---- what is asked
 
 -- a part, and the lock that is asked
-pub record Asked : Type 0 where
+pub record Ask : Type 0 where
   pub lock : ℕ
   pub part : Part
 
@@ -62,11 +62,11 @@ zone_of (Modify c) = c.zone
 zone_of (Lookup c) = c.zone
 
 -- what is asked for a request: nothing where it is refused, or a draw failed
-abbrev pub asks_by : Want → Given → List Asked
+abbrev pub asks_by : Want → Given → List Ask
 asks_by (RefusedWant error) g = []
 asks_by (Called call) g = if g.drawn then record { lock = lock_of_zone (zone_of call); part = part_of call g } ∷ [] else []
 
-abbrev pub asks_of : Wanted → Given → List Asked
+abbrev pub asks_of : Meaning → Given → List Ask
 asks_of w g = asks_by w.want g
 
 -- ---- what is replied
@@ -127,5 +127,5 @@ reply_for (Called call) g answers = if g.drawn then reply_to call g answers else
 abbrev pub text_of : Bool → Reply → List ℕ
 text_of close r = reply_text (reply_status r) (compact_text (reply_data r)) close
 
-abbrev pub reply_of : Wanted → Given → List Answer → List ℕ
+abbrev pub reply_of : Meaning → Given → List Answer → List ℕ
 reply_of w g answers = text_of w.close (reply_for w.want g answers)

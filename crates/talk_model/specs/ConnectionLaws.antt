@@ -4,17 +4,17 @@ use Rattle.std.specs.List.{list_all}
 use Rattle.talk_model.specs.declared.ends.End.{End}
 use Rattle.http_front.specs.declared.request.Request.{Request}
 use Rattle.http_front.specs.Users.{Table}
-use Rattle.talk_model.specs.Requests.{Wanted, want_of}
+use Rattle.talk_model.specs.Requests.{Meaning, want_of}
 use Rattle.talk_model.specs.Connections.{most_requests, AreRequests, last_text}
 use Rattle.talk_model.specs.WholeConnections.{AreWhole, answered, end_behind, IsGoodEnd}
 
 -- the same bytes have no two readings
 abbrev pub HaveOneReading : Type 0
-HaveOneReading = (t : Table) (bytes : List ℕ) (v w : List Wanted) (e f : End) → AreRequests t bytes v e → AreRequests t bytes w f → (v ≡ w) × (e ≡ f)
+HaveOneReading = (t : Table) (bytes : List ℕ) (v w : List Meaning) (e f : End) → AreRequests t bytes v e → AreRequests t bytes w f → (v ≡ w) × (e ≡ f)
 
 -- more bytes leave a reading that this end closes
 abbrev pub StaysRead : End → Type 0
-StaysRead end = (t : Table) (bytes more : List ℕ) (w : List Wanted) → AreRequests t bytes w end → AreRequests t (bytes ++ more) w end
+StaysRead end = (t : Table) (bytes more : List ℕ) (w : List Meaning) → AreRequests t bytes w end → AreRequests t (bytes ++ more) w end
 
 -- Where the bytes are whole requests to their end, these are read, up to the end that they have; nothing is written last there; and it is
 -- a good end where the forms of all that a connection may have are built.

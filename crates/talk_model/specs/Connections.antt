@@ -8,7 +8,7 @@ use Rattle.error_replies.specs.declared.errors.ServerError.TheVariants.{BadReque
 use Rattle.wire_calls.specs.declared.reply.Reply.TheVariants.{Refused}
 use Rattle.talk_model.specs.declared.ends.End.{End}
 use Rattle.talk_model.specs.declared.ends.End.TheVariants.{Closed, CloseAsked, Cut, BadHead, HeadTooLong, NoLength, BodyTooLong, Spent, NotBuilt}
-use Rattle.talk_model.specs.Requests.{Wanted, Wants, IsUnbuilt}
+use Rattle.talk_model.specs.Requests.{Meaning, Wants, IsUnbuilt}
 use Rattle.talk_model.specs.Calls.{text_of}
 
 -- the most requests on one connection
@@ -16,25 +16,25 @@ abbrev pub most_requests : ℕ
 most_requests = 100000
 
 -- none of them asked to close
-abbrev pub GoOn : List Wanted → Type 0
-GoOn ws = AllByRecursion (λ (w : Wanted). w.close ≡ false) ws
+abbrev pub GoOn : List Meaning → Type 0
+GoOn ws = AllByRecursion (λ (w : Meaning). w.close ≡ false) ws
 
 -- there may be a request more
-pub record AreOpen (ws : List Wanted) : Type 0 where
+pub record AreOpen (ws : List Meaning) : Type 0 where
   pub few : length ws < most_requests
   pub go_on : GoOn ws
 
 -- the last one asked to close, and none before it
-pub record AreClosing (ws : List Wanted) : Type 0 where
-  pub before : List Wanted
-  pub last : Wanted
+pub record AreClosing (ws : List Meaning) : Type 0 where
+  pub before : List Meaning
+  pub last : Meaning
   pub parts : ws ≡ before ++ last ∷ []
   pub open_before : AreOpen before
   pub closes : last.close ≡ true
 
 -- What stands behind these requests at each end. Behind one that asked to close, and behind the last that a connection may
 -- have, it may be anything.
-abbrev pub LeavesAt : Table → End → List Wanted → List ℕ → Type 0
+abbrev pub LeavesAt : Table → End → List Meaning → List ℕ → Type 0
 LeavesAt t Closed ws rest = AreOpen ws × (rest ≡ [])
 LeavesAt t CloseAsked ws rest = AreClosing ws
 LeavesAt t Cut ws rest = AreOpen ws × (0 < length rest) × IsUnfinished rest
@@ -46,7 +46,7 @@ LeavesAt t Spent ws rest = (length ws ≡ most_requests) × GoOn ws
 LeavesAt t NotBuilt ws rest = AreOpen ws × IsUnbuilt t rest
 
 -- The bytes are whole requests, of which this is wanted, one after another, and then what stands behind them at this end.
-pub record AreRequests (t : Table) (bytes : List ℕ) (wanted : List Wanted) (end : End) : Type 0 where
+pub record AreRequests (t : Table) (bytes : List ℕ) (wanted : List Meaning) (end : End) : Type 0 where
   pub requests : List (List ℕ)
   pub rest : List ℕ
   pub bytes_are : bytes ≡ concat requests ++ rest

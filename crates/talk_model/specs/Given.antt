@@ -6,7 +6,7 @@ use Rattle.ck_devices.specs.Causes.{HasCause}
 use Rattle.ck_devices.specs.Runs.{GivesInTurn}
 use Rattle.wire_calls.specs.declared.call.Call.{Call}
 use Rattle.wire_calls.specs.declared.call.Call.TheVariants.{Modify, Lookup}
-use Rattle.modify_ops.specs.Drawing.{words_drawn}
+use Rattle.drawn_names.specs.Drawing.{words_drawn}
 use Rattle.talk_model.specs.declared.marks.Mark.{Mark}
 use Rattle.talk_model.specs.declared.wants.Want.{Want}
 use Rattle.talk_model.specs.declared.wants.Want.TheVariants.{Refused, Called}

@@ -7,9 +7,9 @@ use Rattle.zone_model.specs.Events.{own_of}
 use Rattle.board_model.specs.Asks.{made, makes, commits_by}
 use Rattle.talk_model.specs.declared.marks.At.{At}
 use Rattle.talk_model.specs.declared.marks.Mark.{Mark}
-use Rattle.talk_model.specs.Requests.{Wanted}
+use Rattle.talk_model.specs.Requests.{Meaning}
 use Rattle.talk_model.specs.Given.{given_of, AreWordsFor}
-use Rattle.talk_model.specs.Calls.{Asked, asks_of}
+use Rattle.talk_model.specs.Calls.{Ask, asks_of}
 
 -- the seat that a board has at a lock stays
 abbrev pub SeatsStay : (ℕ → Option ℕ) → (ℕ → Option ℕ) → Type 0
@@ -21,7 +21,7 @@ base_of h at = take (at.len - (if at.event then 1 else 0)) (h at.lock)
 
 -- The trace tells the ask of a part at its lock: a length that lies in what the history grew by, whether something is made at
 -- the history that it found, and then, as the last event, what is made there by this board.
-pub record IsAtOf (seats : ℕ → Option ℕ) (entry now : Histories Event) (at : At) (asked : Asked) : Type 0 where
+pub record IsAtOf (seats : ℕ → Option ℕ) (entry now : Histories Event) (at : At) (asked : Ask) : Type 0 where
   pub seat : ℕ
   pub sits : seats at.lock ≡ Some seat
   pub lock : at.lock ≡ asked.lock
@@ -32,13 +32,13 @@ pub record IsAtOf (seats : ℕ → Option ℕ) (entry now : Histories Event) (at
   pub event_is : take at.len (now at.lock) ≡ base_of now at ++ made seat (base_of now at) asked.part
 
 -- The mark tells a request: its number, the words that were drawn for it, and each of its asks.
-pub record IsMarkOf (seats : ℕ → Option ℕ) (number : ℕ) (entry now : Histories Event) (m : Mark) (w : Wanted) : Type 0 where
+pub record IsMarkOf (seats : ℕ → Option ℕ) (number : ℕ) (entry now : Histories Event) (m : Mark) (w : Meaning) : Type 0 where
   pub request : m.request ≡ number
   pub words : AreWordsFor w.want (given_of m)
   pub asks : AllZip (IsAtOf seats entry now) m.asks.items (asks_of w (given_of m))
 
 -- one mark for each request, in order, counted from this number
-abbrev pub AreMarksOf : (ℕ → Option ℕ) → ℕ → Histories Event → Histories Event → List Mark → List Wanted → Type 0
+abbrev pub AreMarksOf : (ℕ → Option ℕ) → ℕ → Histories Event → Histories Event → List Mark → List Meaning → Type 0
 AreMarksOf seats number entry now [] [] = ⊤
 AreMarksOf seats number entry now [] (w ∷ ws) = ⊥
 AreMarksOf seats number entry now (m ∷ marks) [] = ⊥

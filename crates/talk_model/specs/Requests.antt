@@ -4,13 +4,12 @@ use Rattle.std.specs.List.{list_all}
 use Rattle.std.specs.Str.{is_utf8}
 use Rattle.serde_json.specs.Data.{Data}
 use Rattle.serde_json.specs.Read.{read}
-use Rattle.ck_base.specs.declared.key.ZoneKey.{ZoneKey}
+use Rattle.ck_base.specs.KnownNames.{is_own_default}
 use Rattle.ck_base.specs.declared.route.Database.{Database}
 use Rattle.ck_base.specs.declared.route.Database.TheVariants.{Private, Shared, Public}
 use Rattle.ck_base.specs.declared.route.Operation.{Operation}
 use Rattle.ck_base.specs.declared.route.Operation.TheVariants.{RecordsModify, RecordsLookup}
 use Rattle.ck_base.specs.declared.route.Route.{Route}
-use Rattle.zone_model.specs.Names.{same, is_default}
 use Rattle.zone_model.specs.PlainCreates.{is_plain_create}
 use Rattle.error_replies.specs.declared.errors.ServerError.{ServerError}
 use Rattle.error_replies.specs.declared.errors.ServerError.TheVariants.{BadRequest, AuthenticationFailed, AuthenticationRequired}
@@ -33,7 +32,7 @@ use Rattle.http_front.specs.Requests.{IsRequest}
 use Rattle.http_front.specs.Laws.{HasRequest}
 
 -- what is wanted, and whether the connection is to be closed behind the reply
-pub record Wanted : Type 0 where
+pub record Meaning : Type 0 where
   pub close : Bool
   pub want : Want
 
@@ -73,9 +72,6 @@ is_built_operation _ = false
 abbrev pub is_built_route : Route → Bool
 is_built_route route = is_private route.database && is_built_operation route.operation
 
-abbrev pub is_own_default : List ℕ → ZoneKey → Bool
-is_own_default caller key = same caller key.owner && is_default key
-
 -- calls of the caller's default zone in the private database, and of those that modify creates of records that go with no other
 abbrev pub is_built : Call → Bool
 is_built (Modify c) = is_private c.database && (is_own_default c.caller c.zone && list_all is_plain_create c.ops)
@@ -101,7 +97,7 @@ abbrev pub want_of : Table → Request → Option Want
 want_of t r = want_by (sender_in t r) (json_of r.body)
 
 -- The bytes are a whole request, of which this is wanted.
-pub record Wants (t : Table) (bytes : List ℕ) (w : Wanted) : Type 0 where
+pub record Wants (t : Table) (bytes : List ℕ) (w : Meaning) : Type 0 where
   pub request : Request
   pub is : IsRequest bytes request
   pub close : w.close ≡ request.close

@@ -8,7 +8,7 @@ use Rattle.http_front.specs.Users.{Table}
 use Rattle.talk_model.specs.declared.ends.End.{End}
 use Rattle.talk_model.specs.declared.ends.End.TheVariants.{Closed, CloseAsked, Spent, NotBuilt}
 use Rattle.talk_model.specs.declared.wants.Want.{Want}
-use Rattle.talk_model.specs.Requests.{Wanted, want_of}
+use Rattle.talk_model.specs.Requests.{Meaning, want_of}
 use Rattle.talk_model.specs.Connections.{most_requests}
 
 -- The bytes are these requests, one after another, and nothing else.
@@ -24,7 +24,7 @@ or_spent full end = end
 
 module _ (t : Table) where
   -- what is wanted of them, up to the first that asks to close, and ahead of the first whose form is not built
-  abbrev pub wanted_of : List Request → List Wanted
+  abbrev pub wanted_of : List Request → List Meaning
   wanted_of [] = []
   wanted_of (r ∷ rs) = option_map_or (λ (want : Want). record { close = r.close; want = want } ∷ (if r.close then [] else wanted_of rs)) (want_of t r) []
 
@@ -34,7 +34,7 @@ module _ (t : Table) where
   end_of (r ∷ rs) = option_map_or (λ (want : Want). if r.close then CloseAsked else end_of rs) (want_of t r) NotBuilt
 
   -- the requests that are answered, of as many as a connection may have
-  abbrev pub answered : List Request → List Wanted
+  abbrev pub answered : List Request → List Meaning
   answered rs = wanted_of (take most_requests rs)
 
   -- how the connection ends

@@ -8,20 +8,21 @@ use Rattle.serde_json.specs.View.{items_of}
 use Rattle.serde_json.specs.Written.{items_have_float}
 use Rattle.ck_base.specs.declared.key.ZoneKey.{ZoneKey}
 use Rattle.field_values.specs.Exact.{IsExact}
-use Rattle.ck_records.specs.declared.draft.Draft.{Draft}
-use Rattle.ck_records.specs.Meant.{IsMeantDraft}
+use Rattle.record_model.specs.declared.draft.Draft.{Draft}
+use Rattle.record_model.specs.DraftForms.{IsMeantDraft}
 use Rattle.ck_records.specs.Writing.{named_data}
 use Rattle.ck_records.proofs.DraftFlatLemmas.{drafts_flat}
 use Rattle.ck_records.proofs.FlatLemmas.{Flat, present_flat}
 use Rattle.zone_model.specs.declared.operations.Op.{Op}
-use Rattle.modify_ops.specs.Kinds.{is_deletion}
-use Rattle.modify_ops.specs.Forms.{bare}
-use Rattle.modify_ops.specs.Meant.{IsBare, IsMeantWhere, IsMeantOp}
+use Rattle.zone_model.specs.Requests.{is_deletion}
+use Rattle.zone_model.specs.OpForms.{bare}
+use Rattle.zone_model.specs.OpForms.{IsBare, IsMeantWhere, IsMeantOp}
 use Rattle.modify_ops.specs.Writing.{op_data, ops_data}
+use Rattle.ck_base.specs.KnownNames.{is_own_default}
 use Rattle.wire_calls.specs.declared.call.ModifyCall.{ModifyCall}
 use Rattle.wire_calls.specs.declared.call.LookupCall.{LookupCall}
 use Rattle.wire_calls.specs.declared.call.Call.TheVariants.{Modify, Lookup}
-use Rattle.wire_calls.specs.CallWriting.{flag_data, is_default_zone, zone_given, names_data, records_data, modify_data, lookup_data}
+use Rattle.wire_calls.specs.CallWriting.{flag_data, zone_given, names_data, records_data, modify_data, lookup_data}
 use Rattle.wire_calls.specs.Meant.{IsMeantModify}
 use Rattle.wire_calls.specs.CallTexts.{CallsAreExact}
 use Rattle.wire_calls.specs.Zones.{zone_data}
@@ -63,7 +64,7 @@ flag_flat false true = record { whole = refl; shallow = omega arith }
 flag_flat false false = tt
 
 zone_flat : (caller : List ℕ) (key : ZoneKey) → IfSome (zone_given caller key) (Flat 7)
-zone_flat caller key = by (is_default_zone caller key) where
+zone_flat caller key = by (is_own_default caller key) where
   by : (b : Bool) → IfSome (if b then None else Some (zone_data key)) (Flat 7)
   by true = tt
   by false = record { whole = refl; shallow = omega arith }

@@ -5,8 +5,8 @@ use Rattle.serde_json.specs.Data.{Data, null, boolean, number, string, array, ob
 use Rattle.ck_base.specs.Names.{IsName}
 use Rattle.field_values.specs.Exact.{IsExact}
 use Rattle.field_values.specs.Members.{found}
-use Rattle.ck_records.specs.declared.records.Record.{Record}
-use Rattle.ck_records.specs.Stored.{IsStored}
+use Rattle.record_model.specs.declared.records.Record.{Record}
+use Rattle.record_model.specs.RecordForms.{IsStored}
 use Rattle.ck_records.specs.Replied.{IsReplyOf}
 use Rattle.ck_records.specs.Writing.{record_data}
 use Rattle.ck_records.proofs.FlatLemmas.{records_flat}

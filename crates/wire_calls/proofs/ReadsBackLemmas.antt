@@ -16,9 +16,10 @@ use Rattle.ck_records.proofs.LookupLemmas.{listed, get_present}
 use Rattle.ck_records.proofs.ReadsBackLemmas.{name_told, there}
 use Rattle.zone_model.specs.declared.operations.Op.{Op}
 use Rattle.modify_ops.specs.Writing.{ops_data}
-use Rattle.modify_ops.specs.Meant.{IsMeantOp}
+use Rattle.zone_model.specs.OpForms.{IsMeantOp}
 use Rattle.modify_ops.specs.Names.{named_again}
 use Rattle.modify_ops.proofs.ReadsBackLemmas.{ops_read_back}
+use Rattle.ck_base.specs.KnownNames.{default_zone, own_default, is_own_default}
 use Rattle.wire_calls.specs.declared.call.ModifyCall.{ModifyCall}
 use Rattle.wire_calls.specs.declared.call.LookupCall.{LookupCall}
 use Rattle.wire_calls.specs.declared.call.Call.TheVariants.{Modify, Lookup}
@@ -26,10 +27,10 @@ use Rattle.wire_calls.specs.declared.lists.Listed.TheVariants.{Texts, Objects}
 use Rattle.wire_calls.specs.declared.fault.CallKey.{CallKey}
 use Rattle.wire_calls.specs.declared.fault.CallKey.TheVariants.{Atomic, NumbersAsStrings}
 use Rattle.wire_calls.specs.declared.fault.BadCall.{BadCall}
-use Rattle.wire_calls.specs.Zones.{default_zone, zone_in, zone_at, zone_data}
+use Rattle.wire_calls.specs.Zones.{zone_in, zone_at, zone_data}
 use Rattle.wire_calls.specs.Members.{flag_at, name_as, keys_at, records_at, limited, limited_if}
 use Rattle.wire_calls.specs.Calls.{ops_at, checked, modify_of, lookup_of}
-use Rattle.wire_calls.specs.CallWriting.{flag_data, is_default_zone, zone_given, names_data, records_data, modify_data, lookup_data}
+use Rattle.wire_calls.specs.CallWriting.{flag_data, zone_given, names_data, records_data, modify_data, lookup_data}
 use Rattle.wire_calls.specs.Meant.{IsMeantZone, AreNames, IsMeantModify, IsMeantLookup, CallsReadBack}
 
 -- ---- the members
@@ -43,19 +44,19 @@ flag_reads key false false = refl
 abbrev key_from : List ℕ → List ℕ → ZoneKey
 key_from owner zone = record { owner = owner; zone = zone }
 
-default_reads : (caller : List ℕ) (key : ZoneKey) → is_default_zone caller key ≡ true → default_zone caller ≡ key
+default_reads : (caller : List ℕ) (key : ZoneKey) → is_own_default caller key ≡ true → own_default caller ≡ key
 default_reads caller key is =
     let parts = and_parts (bytes_eq key.owner caller) _ is in
     let owner : key.owner ≡ caller = (bytes_eq-Decides key.owner caller).0 parts.0 in
-    let zone : key.zone ≡ codes "_defaultZone" = (bytes_eq-Decides key.zone (codes "_defaultZone")).0 parts.1 in
+    let zone : key.zone ≡ default_zone = (bytes_eq-Decides key.zone default_zone).0 parts.1 in
     ap₂ key_from (sym owner) (sym zone)
 
 key_reads : (caller : List ℕ) (key : ZoneKey) → IsMeantZone caller key → zone_in caller (zone_data key) ≡ Some key
 key_reads caller key is = rw (name_told key.owner is.owner.0, name_told key.zone is.zone, is.owner.1) refl
 
 zone_reads : (caller : List ℕ) (key : ZoneKey) → IsMeantZone caller key → zone_at caller (there (zone_given caller key)) ≡ Ok key
-zone_reads caller key is = by (is_default_zone caller key) refl where
-  by : (b : Bool) → is_default_zone caller key ≡ b → zone_at caller (there (if b then None else Some (zone_data key))) ≡ Ok key
+zone_reads caller key is = by (is_own_default caller key) refl where
+  by : (b : Bool) → is_own_default caller key ≡ b → zone_at caller (there (if b then None else Some (zone_data key))) ≡ Ok key
   by true default = ap Ok (default_reads caller key default)
   by false default = rw (key_reads caller key is) refl
 

@@ -2,7 +2,7 @@
 use Rattle.std.specs.Prelude.{ℕ, Bool, true, false, not, ◌&&◌, List, map, bytes_eq, Option, None, Some}
 use Rattle.ck_base.specs.declared.key.ZoneKey.{ZoneKey}
 use Rattle.zone_model.specs.declared.operations.Op.{Op}
-use Rattle.modify_ops.specs.Kinds.{is_deletion}
+use Rattle.zone_model.specs.Requests.{is_deletion}
 use Rattle.wire_calls.specs.declared.asked.Asked.{Asked}
 use Rattle.wire_calls.specs.declared.call.Call.{Call}
 use Rattle.wire_calls.specs.declared.call.Call.TheVariants.{Modify, Lookup}

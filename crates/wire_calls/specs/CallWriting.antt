@@ -1,8 +1,9 @@
 -- The JSON of calls. What a body means by default is left out.
-use Rattle.std.specs.Prelude.{ℕ, Bool, true, false, ◌&&◌, if◌then◌else◌, List, [], ◌∷◌, map, codes, bytes_eq, Option, None, Some, option_map}
+use Rattle.std.specs.Prelude.{ℕ, Bool, true, false, if◌then◌else◌, List, [], ◌∷◌, map, codes, Option, None, Some, option_map}
 use Rattle.serde_json.specs.Data.{Data, boolean, string, array}
 use Rattle.serde_json.specs.View.{items_of}
 use Rattle.ck_base.specs.declared.key.ZoneKey.{ZoneKey}
+use Rattle.ck_base.specs.KnownNames.{is_own_default}
 use Rattle.ck_records.specs.Objects.{object_of}
 use Rattle.ck_records.specs.Writing.{named_data}
 use Rattle.modify_ops.specs.Writing.{ops_data}
@@ -19,13 +20,9 @@ flag_data true false = Some (boolean false)
 flag_data false true = Some (boolean true)
 flag_data false false = None
 
--- the caller's default zone
-abbrev pub is_default_zone : List ℕ → ZoneKey → Bool
-is_default_zone caller key = bytes_eq key.owner caller && bytes_eq key.zone (codes "_defaultZone")
-
--- the ID of another zone
+-- the ID of a zone other than the caller's default zone
 abbrev pub zone_given : List ℕ → ZoneKey → Option Data
-zone_given caller key = if is_default_zone caller key then None else Some (zone_data key)
+zone_given caller key = if is_own_default caller key then None else Some (zone_data key)
 
 abbrev pub names_data : List (List ℕ) → Data
 names_data names = array (items_of (map string names))

@@ -5,8 +5,8 @@ use Rattle.serde_json.specs.Find.{as_str}
 use Rattle.ck_base.specs.Names.{IsName}
 use Rattle.field_values.specs.Members.{found}
 use Rattle.field_values.specs.References.{name_in}
-use Rattle.ck_records.specs.declared.records.Record.{Record}
-use Rattle.ck_records.specs.Stored.{IsStored}
+use Rattle.record_model.specs.declared.records.Record.{Record}
+use Rattle.record_model.specs.RecordForms.{IsStored}
 use Rattle.ck_records.specs.Writing.{record_data}
 use Rattle.error_replies.specs.declared.errors.ServerError.{ServerError}
 use Rattle.error_replies.specs.declared.errors.ServerError.TheVariants.{AccessDenied, AtomicError, AuthenticationFailed, AuthenticationRequired, BadRequest, Conflict, Exists, NotFound, TryAgainLater, ValidatingReferenceError, ZoneNotFound}

@@ -6,7 +6,7 @@ use Rattle.ck_base.specs.declared.key.ZoneKey.{ZoneKey}
 use Rattle.ck_base.specs.declared.route.Operation.TheVariants.{RecordsModify, RecordsLookup}
 use Rattle.ck_base.specs.declared.route.Route.{Route}
 use Rattle.modify_ops.specs.Names.{named_again}
-use Rattle.modify_ops.specs.Meant.{IsMeantOp}
+use Rattle.zone_model.specs.OpForms.{IsMeantOp}
 use Rattle.wire_calls.specs.declared.call.ModifyCall.{ModifyCall}
 use Rattle.wire_calls.specs.declared.call.LookupCall.{LookupCall}
 use Rattle.wire_calls.specs.declared.call.Call.{Call}

@@ -3,19 +3,16 @@
 use Rattle.std.specs.Prelude.{ℕ, if◌then◌else◌, List, codes, bytes_eq, Option, None, Some, option_map, ok_or, Result, Ok}
 use Rattle.serde_json.specs.Data.{Data, string, object, no_members, member}
 use Rattle.ck_base.specs.declared.key.ZoneKey.{ZoneKey}
+use Rattle.ck_base.specs.KnownNames.{default_owner, own_default}
 use Rattle.field_values.specs.Members.{found}
 use Rattle.field_values.specs.References.{name_in}
 use Rattle.wire_calls.specs.declared.fault.CallKey.TheVariants.{ZoneId}
 use Rattle.wire_calls.specs.declared.fault.BadCall.{BadCall}
 use Rattle.wire_calls.specs.declared.fault.BadCall.TheVariants.{BadKey}
 
--- the zone that each user has from the start
-abbrev pub default_zone : List ℕ → ZoneKey
-default_zone caller = record { owner = caller; zone = codes "_defaultZone" }
-
 -- the name of an owner; one of them stands for the caller
 abbrev pub owner_of : List ℕ → List ℕ → List ℕ
-owner_of caller name = if bytes_eq name (codes "__defaultOwner__") then caller else name
+owner_of caller name = if bytes_eq name default_owner then caller else name
 
 -- without an owner it is the caller's
 abbrev pub owner_in : List ℕ → Option Data → Option (List ℕ)
@@ -34,7 +31,7 @@ zone_in caller d = key_of (owner_in caller (found (codes "ownerRecordName") d)) 
 
 -- without a zone ID it is the caller's default zone
 abbrev pub zone_at : List ℕ → Option Data → Result ZoneKey BadCall
-zone_at caller None = Ok (default_zone caller)
+zone_at caller None = Ok (own_default caller)
 zone_at caller (Some d) = ok_or (zone_in caller d) (BadKey ZoneId)
 
 abbrev pub zone_data : ZoneKey → Data

@@ -1,26 +1,20 @@
 // What a call asks of each entry of its reply.
 ghost use Rattle.std.specs.Prelude.{◌≡◌, IfOk, map};
-ghost use Rattle.modify_ops.specs.Kinds.{is_deletion};
 ghost use Rattle.wire_calls.specs.Asked.{asked_by, asked_for, asked_of};
 
 use crate::Call;
 use ck_base::{NoMemory, RecordName};
-use modify_ops::{Op, OpKind};
+use drawn_names::is_deletion;
+use modify_ops::Op;
 use std::alloc::Global;
 
 /// What a call asks of an entry of its reply.
-#[derive(Debug, Drop)]
+#[derive(Drop)]
 pub(crate) struct Asked {
     /// The name that the entry has to have, where the call gives one.
     pub(crate) name: Option<RecordName>,
     /// The record is to go.
     pub(crate) deletes: bool,
-}
-
-fn is_deletion(kind: OpKind) -> bool
-    ensures { result ≡ is_deletion kind }
-{
-    matches!(kind, OpKind::Delete | OpKind::ForceDelete)
 }
 
 fn asked_by(op: &Op) -> Result<Asked, NoMemory>

@@ -7,11 +7,10 @@ ghost use Rattle.ck_records.specs.Writing.{named_data};
 ghost use Rattle.wire_calls.specs.Zones.{zone_data};
 ghost use Rattle.wire_calls.specs.Meant.{IsMeantCall, route_of, caller_of};
 ghost use Rattle.wire_calls.specs.Means.{Means};
-ghost use Rattle.wire_calls.specs.CallWriting.{flag_data, is_default_zone, zone_given, names_data, records_data, modify_data, lookup_data, call_data};
+ghost use Rattle.wire_calls.specs.CallWriting.{flag_data, zone_given, names_data, records_data, modify_data, lookup_data, call_data};
 
-use crate::zones::DEFAULT_ZONE;
 use crate::{Call, LookupCall, ModifyCall};
-use ck_base::{NoMemory, RecordName, RecordNames, UserName, ZoneKey};
+use ck_base::{NoMemory, RecordName, RecordNames, UserName, ZoneKey, is_own_default};
 use ck_records::put_some;
 use modify_ops::ops_json;
 use serde_json::{Map, Value as Json, json};
@@ -27,12 +26,6 @@ fn flag_json(default: bool, flag: bool) -> Option<Json>
     }
 }
 
-fn is_default_zone(caller: &UserName, key: &ZoneKey) -> bool
-    ensures { result ≡ is_default_zone caller.now key.now }
-{
-    key.owner.as_bytes() == caller.as_bytes() && key.zone.as_bytes() == DEFAULT_ZONE
-}
-
 pub(crate) fn zone_json(alloc: Global, key: &ZoneKey) -> Result<Json, NoMemory>
     ensures { IfOk result (λ json. view json ≡ zone_data key.now) }
 {
@@ -44,7 +37,7 @@ pub(crate) fn zone_json(alloc: Global, key: &ZoneKey) -> Result<Json, NoMemory>
 fn zone_given(alloc: Global, caller: &UserName, key: &ZoneKey) -> Result<Option<Json>, NoMemory>
     ensures { IfOk result (λ json. option_map view json ≡ zone_given caller.now key.now) }
 {
-    if is_default_zone(caller, key) {
+    if is_own_default(caller, key) {
         Ok(None)
     } else {
         Ok(Some(zone_json(alloc, key)?))
@@ -96,14 +89,22 @@ fn records_json(alloc: Global, names: &RecordNames) -> Result<Json, NoMemory>
 fn modify_json(alloc: Global, call: &ModifyCall) -> Result<Json, NoMemory>
     ensures { IfOk result (λ json. view json ≡ modify_data call.now) }
 {
-    let zone = zone_given(alloc, &call.caller, &call.zone)?;
-    let ops = ops_json(alloc, &call.ops)?;
-    let numbers = flag_json(false, call.numbers_as_strings);
-    let atomic = flag_json(true, call.atomic);
     let mut members = Map::new(alloc);
-    put_some(&mut members, alloc, "zoneID", zone)?;
-    put_some(&mut members, alloc, "operations", Some(ops))?;
+    put_some(
+        &mut members,
+        alloc,
+        "zoneID",
+        zone_given(alloc, &call.caller, &call.zone)?,
+    )?;
+    put_some(
+        &mut members,
+        alloc,
+        "operations",
+        Some(ops_json(alloc, &call.ops)?),
+    )?;
+    let numbers = flag_json(false, call.numbers_as_strings);
     put_some(&mut members, alloc, "numbersAsStrings", numbers)?;
+    let atomic = flag_json(true, call.atomic);
     put_some(&mut members, alloc, "atomic", atomic)?;
     Ok(Json::Object(members))
 }
@@ -111,15 +112,27 @@ fn modify_json(alloc: Global, call: &ModifyCall) -> Result<Json, NoMemory>
 fn lookup_json(alloc: Global, call: &LookupCall) -> Result<Json, NoMemory>
     ensures { IfOk result (λ json. view json ≡ lookup_data call.now) }
 {
-    let zone = zone_given(alloc, &call.caller, &call.zone)?;
-    let names = records_json(alloc, &call.names)?;
-    let numbers = flag_json(false, call.numbers_as_strings);
-    let keys = keys_json(alloc, &call.desired_keys)?;
     let mut members = Map::new(alloc);
-    put_some(&mut members, alloc, "zoneID", zone)?;
-    put_some(&mut members, alloc, "records", Some(names))?;
+    put_some(
+        &mut members,
+        alloc,
+        "zoneID",
+        zone_given(alloc, &call.caller, &call.zone)?,
+    )?;
+    put_some(
+        &mut members,
+        alloc,
+        "records",
+        Some(records_json(alloc, &call.names)?),
+    )?;
+    let numbers = flag_json(false, call.numbers_as_strings);
     put_some(&mut members, alloc, "numbersAsStrings", numbers)?;
-    put_some(&mut members, alloc, "desiredKeys", keys)?;
+    put_some(
+        &mut members,
+        alloc,
+        "desiredKeys",
+        keys_json(alloc, &call.desired_keys)?,
+    )?;
     Ok(Json::Object(members))
 }
 

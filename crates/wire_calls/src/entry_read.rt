@@ -10,7 +10,7 @@ use crate::RecordEntry;
 use crate::asked::Asked;
 use crate::reply_write::{conflict_json, failed_json, gone_json};
 use ck_base::{NoMemory, RecordName, ZoneKey};
-use ck_records::{Record, ReplyRecordFault, read_reply_record, record_json};
+use ck_records::{Record, ReplyRecordFault, read_reply_record};
 use error_replies::{ServerError, code_of};
 use field_values::{member, name_in, same_json};
 use serde_json::Value as Json;
@@ -131,8 +131,7 @@ fn read_conflict(
     let Some(server) = read_server(alloc, json, here, numbers_as_strings)? else {
         return Ok(None);
     };
-    let written = record_json(alloc, &server, &here.owner, numbers_as_strings)?;
-    let written = conflict_json(alloc, &name, written)?;
+    let written = conflict_json(alloc, &name, &server, &here.owner, numbers_as_strings)?;
     if same_json(alloc, json, &written)? {
         Ok(Some((name, server)))
     } else {

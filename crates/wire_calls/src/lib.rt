@@ -3,14 +3,10 @@
 
 mod asked;
 mod call;
-#[cfg(test)]
-mod call_tests;
 mod call_write;
 mod entry_read;
 mod fault;
 mod laws;
-#[cfg(test)]
-mod limit_tests;
 mod lists;
 mod lookup;
 mod members;
@@ -19,8 +15,6 @@ mod read;
 mod reply;
 mod reply_fault;
 mod reply_read;
-#[cfg(test)]
-mod reply_tests;
 mod reply_write;
 mod zones;
 

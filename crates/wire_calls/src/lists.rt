@@ -15,7 +15,7 @@ use serde_json::Value as Json;
 use std::alloc::Global;
 
 /// What the elements of a list of names are.
-#[derive(Clone, Copy, Debug, PartialEq, Eq)]
+#[derive(Clone, Copy)]
 pub(crate) enum Listed {
     /// The names of fields, as texts.
     Texts,

@@ -36,6 +36,16 @@ fn limited_if(names: &Option<RecordNames>) -> Result<(), BadCall>
     }
 }
 
+// Whether the list of fields is short enough, and then the names.
+fn limits(keys: &Option<RecordNames>, names: &RecordNames) -> Result<(), BadCall>
+    ensures limit { result ≡ limited_if keys.now (limited names.now (Ok tt)) }
+    ensures keys { OnOk result (IfSome keys.now (λ keys. length keys ≤ 200)) }
+    ensures names { OnOk result (length names.now ≤ 200) }
+{
+    limited_if(keys)?;
+    limited(names)
+}
+
 /// The call for records by their names, as its body has it.
 pub(crate) fn read_lookup(
     alloc: Global,
@@ -55,8 +65,7 @@ pub(crate) fn read_lookup(
     )?;
     let desired_keys = keys_at(alloc, member(json, "desiredKeys"))?;
     let names = records_at(alloc, member(json, "records"))?;
-    limited_if(&desired_keys)?;
-    limited(&names)?;
+    limits(&desired_keys, &names)?;
     Ok(LookupCall {
         caller: caller.clone()?,
         database,

@@ -4,7 +4,7 @@ ghost use Rattle.std.specs.List.{AllByRecursion};
 ghost use Rattle.serde_json.specs.View.{view};
 ghost use Rattle.ck_base.specs.Told.{IsToldUnless};
 ghost use Rattle.modify_ops.specs.Names.{named_again};
-ghost use Rattle.modify_ops.specs.Meant.{IsMeantOp};
+ghost use Rattle.zone_model.specs.OpForms.{IsMeantOp};
 ghost use Rattle.wire_calls.specs.Meant.{IsMeantModify};
 ghost use Rattle.wire_calls.specs.Calls.{ops_at, checked, modify_of};
 

@@ -2,13 +2,14 @@
 ghost use Rattle.std.specs.Prelude.{◌≡◌, IfOk, map, string_bytes};
 ghost use Rattle.serde_json.specs.View.{view};
 ghost use Rattle.serde_json.specs.Written.{compact_text};
+ghost use Rattle.ck_records.specs.Writing.{record_data};
 ghost use Rattle.wire_calls.specs.declared.call.Call.{Call};
 ghost use Rattle.wire_calls.specs.RepliesTo.{IsFor, IsReply};
 ghost use Rattle.wire_calls.specs.Replies.{gone_data, failed_data, conflict_data, reply_entry_data, records_reply_data, reply_data, reply_status};
 
 use crate::{RecordEntry, RecordsReply, Reply};
 use ck_base::{NoMemory, RecordName, UserName};
-use ck_records::record_json;
+use ck_records::{Record, record_json};
 use error_replies::{ServerError, code_of, error_json, reason_of, status};
 use serde_json::{Value as Json, json};
 use std::alloc::Global;
@@ -33,11 +34,7 @@ pub(crate) fn failed_json(
     Ok(json!(in alloc; {"reason": reason, "recordName": name, "serverErrorCode": code})?)
 }
 
-pub(crate) fn conflict_json(
-    alloc: Global,
-    name: &RecordName,
-    server: Json,
-) -> Result<Json, NoMemory>
+fn with_server(alloc: Global, name: &RecordName, server: Json) -> Result<Json, NoMemory>
     ensures { IfOk result (λ json. view json ≡ conflict_data name.now (view server)) }
 {
     let code = code_of(ServerError::Conflict);
@@ -49,6 +46,20 @@ pub(crate) fn conflict_json(
         "serverErrorCode": code,
         "serverRecord": server
     })?)
+}
+
+pub(crate) fn conflict_json(
+    alloc: Global,
+    name: &RecordName,
+    server: &Record,
+    owner: &UserName,
+    numbers_as_strings: bool,
+) -> Result<Json, NoMemory>
+    ensures { IfOk result (λ json.
+        view json ≡ conflict_data name.now (record_data owner.now numbers_as_strings server.now)) }
+{
+    let server = record_json(alloc, server, owner, numbers_as_strings)?;
+    with_server(alloc, name, server)
 }
 
 fn entry_json(
@@ -65,8 +76,7 @@ fn entry_json(
         RecordEntry::Gone(name) => gone_json(alloc, name),
         RecordEntry::Failed { error, name } => failed_json(alloc, *error, name),
         RecordEntry::Conflict { name, server } => {
-            let server = record_json(alloc, server, owner, numbers_as_strings)?;
-            conflict_json(alloc, name, server)
+            conflict_json(alloc, name, server, owner, numbers_as_strings)
         }
     }
 }

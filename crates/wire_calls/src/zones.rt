@@ -3,25 +3,21 @@ ghost use Rattle.std.specs.Prelude.{◌≡◌, IfOk, IfErr, IfSome, option_map};
 ghost use Rattle.serde_json.specs.View.{view};
 ghost use Rattle.ck_base.specs.Told.{IsToldUnless};
 ghost use Rattle.wire_calls.specs.Meant.{IsMeantOwner, IsMeantZone};
-ghost use Rattle.wire_calls.specs.Zones.{default_zone, owner_of, owner_in, zone_in, zone_at};
+ghost use Rattle.ck_base.specs.KnownNames.{own_default};
+ghost use Rattle.wire_calls.specs.Zones.{owner_of, owner_in, zone_in, zone_at};
 
 use crate::{BadCall, CallKey};
+use ck_base::known::{DEFAULT_OWNER, DEFAULT_ZONE};
 use ck_base::{NoMemory, UserName, ZoneKey, zone_name};
 use field_values::{member, name_in};
 use serde_json::Value as Json;
 use std::alloc::Global;
 
-/// The owner that stands for the caller.
-const CALLER: &str = "__defaultOwner__";
-
-/// The zone that each user has from the start.
-pub(crate) const DEFAULT_ZONE: &[u8] = b"_defaultZone";
-
 fn owner_of(caller: &UserName, name: UserName) -> Result<UserName, NoMemory>
     ensures meant { IfOk result (IsMeantOwner caller.now) }
     ensures owner { IfOk result (λ owner. owner ≡ owner_of caller.now name) }
 {
-    if name.as_bytes() == CALLER.as_bytes() {
+    if name.as_bytes() == DEFAULT_OWNER.as_bytes() {
         Ok(caller.clone()?)
     } else {
         Ok(name)
@@ -59,12 +55,12 @@ fn zone_in(alloc: Global, caller: &UserName, json: &Json) -> Result<Option<ZoneK
     }
 }
 
-fn default_zone(alloc: Global, caller: &UserName) -> Result<ZoneKey, BadCall>
-    ensures key { IfOk result (λ key. key ≡ default_zone caller.now) }
+fn own_default(alloc: Global, caller: &UserName) -> Result<ZoneKey, BadCall>
+    ensures key { IfOk result (λ key. key ≡ own_default caller.now) }
     ensures meant { IfOk result (IsMeantZone caller.now) }
     ensures memory { IfErr result (λ fault. fault ≡ BadCall.NoMemory) }
 {
-    let Ok(zone) = zone_name(alloc, DEFAULT_ZONE) else {
+    let Ok(zone) = zone_name(alloc, DEFAULT_ZONE.as_bytes()) else {
         return Err(BadCall::NoMemory);
     };
     let owner = caller.clone()?;
@@ -82,7 +78,7 @@ pub(crate) fn zone_at(
     ensures meant { IfOk result (IsMeantZone caller.now) }
 {
     let Some(json) = json else {
-        return default_zone(alloc, caller);
+        return own_default(alloc, caller);
     };
     match zone_in(alloc, caller, json)? {
         Some(key) => Ok(key),

@@ -6,8 +6,8 @@ use Rattle.ck_base.specs.Names.{lock_of_names}
 use Rattle.ck_base.specs.declared.key.ZoneKey.{ZoneKey}
 use Rattle.ck_base.specs.declared.scope.Scope.{Scope}
 use Rattle.ck_base.specs.declared.scope.Scope.TheVariants.{Private}
-use Rattle.ck_records.specs.declared.records.Record.{Record}
-use Rattle.ck_records.specs.declared.view.View.{View}
+use Rattle.record_model.specs.declared.records.Record.{Record}
+use Rattle.record_model.specs.declared.view.View.{View}
 use Rattle.zone_model.specs.declared.operations.Op.{Op}
 use Rattle.zone_model.specs.declared.commits.Commit.{Commit}
 use Rattle.zone_model.specs.declared.events.Event.{Event}
@@ -21,9 +21,9 @@ use Rattle.zone_model.specs.Requests.{Caller}
 use Rattle.zone_model.specs.Modifying.{is_judged_as_one, modified_as_one, modified_apart, commits_of_request}
 use Rattle.zone_model.specs.PlainCreates.{IsOwner, is_plain_create}
 use Rattle.zone_model.specs.OnePuts.{IsOnePut, last_put}
-use Rattle.zone_model.proofs.LegalLaws.{histories_legal}
-use Rattle.zone_model.proofs.OnePutLaws.{puts_found}
-use Rattle.modify_ops.specs.Drawing.{named_ops}
+use Rattle.zone_laws.proofs.LegalLaws.{histories_legal}
+use Rattle.zone_laws.proofs.OnePutLaws.{puts_found}
+use Rattle.drawn_names.specs.Drawing.{named_ops}
 use Rattle.board_model.specs.declared.parts.Part.{Part}
 use Rattle.board_model.specs.declared.parts.Part.TheVariants.{Modify, Lookup}
 use Rattle.board_model.specs.declared.answers.Answer.{Answer}

@@ -6,9 +6,9 @@ use Rattle.std.specs.List.{AllByRecursion}
 use Rattle.std.proofs.lemmas.Bool.{both_ways}
 use Rattle.std.proofs.lemmas.Option.{same_Some}
 use Rattle.ck_base.specs.Names.{IsName}
-use Rattle.ck_records.specs.declared.records.Record.{Record}
-use Rattle.ck_records.specs.Meant.{IsMeantDraft}
-use Rattle.ck_records.specs.Stored.{IsStored}
+use Rattle.record_model.specs.declared.records.Record.{Record}
+use Rattle.record_model.specs.DraftForms.{IsMeantDraft}
+use Rattle.record_model.specs.RecordForms.{IsStored}
 use Rattle.zone_model.specs.declared.operations.Op.{Op}
 use Rattle.zone_model.specs.declared.commits.Commit.{Commit}
 use Rattle.zone_model.specs.declared.outcomes.OpFault.{OpFault}
@@ -18,11 +18,12 @@ use Rattle.zone_model.specs.Records.{is_there}
 use Rattle.zone_model.specs.Zones.{zone_at, puts_at}
 use Rattle.zone_model.specs.PlainCreates.{IsOwner, is_plain_create, is_too_large, created_record, refusal_of_create}
 use Rattle.zone_model.specs.OnePuts.{IsOnePut, last_put}
-use Rattle.zone_model.proofs.PlainLaws.{creates_done, creates_in_form}
-use Rattle.zone_model.proofs.OnePutLaws.{puts_found}
+use Rattle.zone_laws.proofs.PlainLaws.{creates_done, creates_in_form}
+use Rattle.zone_laws.proofs.OnePutLaws.{puts_found}
 use Rattle.zone_board.specs.declared.create.Asking.{Asking}
 use Rattle.zone_board.specs.Kept.{IsCreation}
-use Rattle.zone_board.specs.Creations.{draft_with, with_name, first_record}
+use Rattle.drawn_names.specs.Drawing.{draft_with, with_name}
+use Rattle.zone_board.specs.Creations.{first_record}
 use Rattle.zone_board.specs.Askings.{caller_of, commit_by, one_done, IsOfOwner}
 use Rattle.zone_board.proofs.SightLemmas.{default_there}
 

@@ -4,18 +4,19 @@ use Rattle.std.specs.Prelude.{filter, min, nat_lt, unwrap_or, is_none, if◌then
 use Rattle.std.specs.List.{list_all, cons_option}
 use Rattle.std.proofs.lemmas.Bool.{and_parts, and_from, lt-ltb, le-ltb}
 use Rattle.ck_base.specs.Order.{is_before, are_ascending}
-use Rattle.field_values.specs.declared.value.Value.{Value}
-use Rattle.ck_records.specs.declared.draft.Draft.{Draft}
-use Rattle.ck_records.specs.declared.records.Record.{Record}
-use Rattle.ck_records.specs.Meant.{AreWishes}
-use Rattle.ck_records.specs.Sizes.{size_of_record}
+use Rattle.record_model.specs.declared.value.Value.{Value}
+use Rattle.record_model.specs.declared.draft.Draft.{Draft}
+use Rattle.record_model.specs.declared.records.Record.{Record}
+use Rattle.record_model.specs.DraftForms.{AreWishes}
+use Rattle.record_model.specs.RecordSizes.{size_of_record}
 use Rattle.zone_model.specs.Limits.{most_record_size}
 use Rattle.zone_model.specs.Names.{same}
 use Rattle.zone_model.specs.Putting.{after_wish, after_wishes}
 use Rattle.zone_model.specs.PlainCreates.{drafted_record, created_record, is_too_large}
-use Rattle.zone_model.proofs.NameLaws.{before-asym, same-sym_false}
-use Rattle.zone_model.proofs.RecordLaws.{before_differs}
-use Rattle.zone_board.specs.Creations.{draft_with, given_field, given_fields, first_of_type, first_record}
+use Rattle.zone_laws.proofs.NameLaws.{before-asym, same-sym_false}
+use Rattle.zone_laws.proofs.RecordLaws.{before_differs}
+use Rattle.drawn_names.specs.Drawing.{draft_with}
+use Rattle.zone_board.specs.Creations.{given_field, given_fields, first_of_type, first_record}
 
 -- ---- fields
 

@@ -4,13 +4,13 @@ use Rattle.std.specs.Prelude.{fold, is_some, option_map}
 use Rattle.std.specs.List.{AllByRecursion}
 use Rattle.std.proofs.lemmas.List.Sums.{fold-append}
 use Rattle.ck_base.specs.declared.key.ZoneKey.{ZoneKey}
-use Rattle.ck_records.specs.declared.records.Record.{Record}
+use Rattle.record_model.specs.declared.records.Record.{Record}
 use Rattle.zone_model.specs.declared.commits.Commit.{Commit}
 use Rattle.zone_model.specs.Options.{or_else}
 use Rattle.zone_model.specs.Records.{is_there}
 use Rattle.zone_model.specs.Zones.{zone_at}
 use Rattle.zone_model.specs.OnePuts.{put_by, last_put, IsOnePut}
-use Rattle.zone_model.proofs.OnePutLaws.{puts_found}
+use Rattle.zone_laws.proofs.OnePutLaws.{puts_found}
 
 some_mapped : {X Y : Type 0} (f : X → Y) (o : Option X) → is_some o ≡ is_some (option_map f o)
 some_mapped f None = refl

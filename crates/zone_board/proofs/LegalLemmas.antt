@@ -24,8 +24,8 @@ use Rattle.zone_model.specs.Form.{IsInForm}
 use Rattle.zone_model.specs.Legal.{are_of_lock, is_legal_event}
 use Rattle.zone_model.specs.PlainCreates.{is_plain_create}
 use Rattle.zone_model.specs.OnePuts.{IsOnePut}
-use Rattle.zone_model.proofs.LawfulLaws.{effects_lawful}
-use Rattle.zone_model.proofs.LegalLaws.{histories_legal}
+use Rattle.zone_laws.proofs.LawfulLaws.{effects_lawful}
+use Rattle.zone_laws.proofs.LegalLaws.{histories_legal}
 use Rattle.board_model.specs.Asks.{event_of}
 use Rattle.zone_board.specs.Kept.{IsKept, IsCreation}
 use Rattle.zone_board.proofs.PlainLemmas.{all_joined, all_weaker, no_roots}

@@ -11,11 +11,10 @@ use Rattle.zone_model.specs.declared.outcomes.Modified.{Modified}
 use Rattle.zone_model.specs.Modifying.{modified_apart}
 use Rattle.zone_model.specs.OnePuts.{IsOnePut}
 use Rattle.zone_model.specs.PlainCreates.{is_plain_create}
-use Rattle.modify_ops.specs.Drawing.{words_for, words_drawn, first_word, words_after, named_by, named_ops}
-use Rattle.modify_ops.specs.Meant.{IsMeantOp}
+use Rattle.drawn_names.specs.Drawing.{words_for, words_drawn, first_word, words_after, with_name, named_by, named_ops}
+use Rattle.zone_model.specs.OpForms.{IsMeantOp}
 use Rattle.zone_board.specs.declared.create.Asking.{Asking}
 use Rattle.zone_board.specs.Kept.{IsCreation}
-use Rattle.zone_board.specs.Creations.{with_name}
 use Rattle.zone_board.specs.Askings.{caller_of, one_done, all_done}
 use Rattle.zone_board.proofs.PlainLemmas.{all_joined, all_weaker, none_left}
 

@@ -4,13 +4,13 @@ use Rattle.std.specs.Prelude.{drop, is_none, is_some, filter_map, if◌then◌el
 use Rattle.std.specs.Option.{option_map_or}
 use Rattle.std.specs.List.{list_all, cons_option, AllByRecursion}
 use Rattle.std.proofs.lemmas.Bool.{both_ways, and_parts, and_from}
-use Rattle.ck_records.specs.declared.draft.ForRoot.{ForRoot}
+use Rattle.record_model.specs.declared.draft.ForRoot.{ForRoot}
 use Rattle.zone_model.specs.declared.operations.OpKind.{OpKind}
 use Rattle.zone_model.specs.declared.operations.OpKind.TheVariants.{Create, Update, ForceUpdate, Replace, ForceReplace, Delete, ForceDelete}
 use Rattle.zone_model.specs.declared.operations.Op.{Op}
 use Rattle.zone_model.specs.Requests.{Putting, is_create, is_deletion, draws_guid, guids_left, first_guid, puts_in, root_given, has_share_type}
 use Rattle.zone_model.specs.PlainCreates.{gives_no_parent, gives_no_share, is_plain_create}
-use Rattle.modify_ops.specs.Drawing.{draws_name, one_if, name_of_word, guid_of_word, first_word, words_after, named_by, named_ops, guids_of}
+use Rattle.drawn_names.specs.Drawing.{draws_name, one_if, name_of_word, guid_of_word, first_word, words_after, named_by, named_ops, guids_of}
 
 pub all_joined : {X : Type 0} (P : X → Type 0) (xs ys : List X) → AllByRecursion P xs → AllByRecursion P ys → AllByRecursion P (xs ++ ys)
 all_joined P [] ys some more = more

@@ -5,8 +5,8 @@ use Rattle.std.specs.Option.{option_map_or}
 use Rattle.std.specs.List.{list_all, AllByRecursion}
 use Rattle.std.proofs.lemmas.Bool.{both_ways, and_parts}
 use Rattle.ck_base.specs.declared.key.ZoneKey.{ZoneKey}
-use Rattle.ck_records.specs.declared.records.Record.{Record}
-use Rattle.ck_records.specs.declared.view.View.{View}
+use Rattle.record_model.specs.declared.records.Record.{Record}
+use Rattle.record_model.specs.declared.view.View.{View}
 use Rattle.zone_model.specs.declared.operations.Op.{Op}
 use Rattle.zone_model.specs.declared.operations.Past.{Past}
 use Rattle.zone_model.specs.declared.commits.Act.{Act}
@@ -25,9 +25,9 @@ use Rattle.zone_model.specs.Effect.{Request, working, stamp, stamped}
 use Rattle.zone_model.specs.Modifying.{request_at, judgement_at, done, outcome_of, effect_at, modified_as_one, modified_apart}
 use Rattle.zone_model.specs.PlainCreates.{IsOwner, is_plain_create, refusal_of_create}
 use Rattle.zone_model.specs.OnePuts.{only_put, IsOnePut}
-use Rattle.zone_model.proofs.NameLaws.{same-refl, same-true}
-use Rattle.zone_model.proofs.RecordLaws.{found-name}
-use Rattle.zone_model.proofs.PlainLaws.{creates_done}
+use Rattle.zone_laws.proofs.NameLaws.{same-refl, same-true}
+use Rattle.zone_laws.proofs.RecordLaws.{found-name}
+use Rattle.zone_laws.proofs.PlainLaws.{creates_done}
 use Rattle.board_model.specs.Sights.{OpSight, op_sight, sights_of, puts_seen, request_seen, outcomes_as_one, outcomes_apart}
 use Rattle.zone_board.proofs.PlainLemmas.{all_joined, no_deletion}
 

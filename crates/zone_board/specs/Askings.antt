@@ -1,7 +1,7 @@
 -- Who asks for creations in which zone, and what they come to.
 use Rattle.std.specs.Prelude.{◌≡◌, ◌<◌, ◌^◌, true, List, [], ◌∷◌}
 use Rattle.ck_base.specs.declared.scope.Scope.TheVariants.{Private}
-use Rattle.ck_records.specs.declared.records.Record.{Record}
+use Rattle.record_model.specs.declared.records.Record.{Record}
 use Rattle.zone_model.specs.declared.operations.Op.{Op}
 use Rattle.zone_model.specs.declared.commits.Commit.{Commit}
 use Rattle.zone_model.specs.declared.outcomes.Modified.{Modified}

@@ -1,18 +1,10 @@
 -- Creations with their names, and the records that they put.
 use Rattle.std.specs.Prelude.{ℕ, ◌||◌, List, filter_map, Option, Some, None, is_none, option_map, if◌then◌else◌}
-use Rattle.field_values.specs.declared.value.Value.{Value}
-use Rattle.ck_records.specs.declared.draft.Draft.{Draft}
-use Rattle.ck_records.specs.declared.records.Body.TheVariants.{Plain}
-use Rattle.ck_records.specs.declared.records.Record.{Record}
-use Rattle.zone_model.specs.declared.operations.Op.{Op}
+use Rattle.record_model.specs.declared.value.Value.{Value}
+use Rattle.record_model.specs.declared.draft.Draft.{Draft}
+use Rattle.record_model.specs.declared.records.Body.TheVariants.{Plain}
+use Rattle.record_model.specs.declared.records.Record.{Record}
 use Rattle.zone_model.specs.PlainCreates.{created_record, is_too_large}
-
-abbrev pub draft_with : Draft → List ℕ → Draft
-draft_with d name = record d { name = Some name }
-
--- the operation with this name
-abbrev pub with_name : Op → List ℕ → Op
-with_name op name = record op { draft = draft_with op.draft name }
 
 -- the fields that a draft gives, in order
 abbrev pub given_field : List ℕ × Option Value → Option (List ℕ × Value)

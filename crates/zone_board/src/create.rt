@@ -1,22 +1,21 @@
 // Creations of records, each with its name.
 ghost use Rattle.std.specs.Prelude.{◌≡◌, ◌<◌, ◌++◌, ◌∷◌, [], true, length, IfOk};
 ghost use Rattle.std.specs.List.{AllByRecursion};
-ghost use Rattle.ck_records.specs.Meant.{IsMeantDraft, AreWishes};
+ghost use Rattle.record_model.specs.DraftForms.{IsMeantDraft, AreWishes};
 ghost use Rattle.zone_model.specs.Events.{log_of};
 ghost use Rattle.zone_model.specs.OnePuts.{IsOnePut};
 ghost use Rattle.zone_model.specs.PlainCreates.{is_plain_create};
-ghost use Rattle.modify_ops.specs.Drawing.{draws_name, first_word, named_by};
+ghost use Rattle.drawn_names.specs.Drawing.{draft_with, with_name};
 ghost use Rattle.zone_board.specs.Kept.{IsCreation};
-ghost use Rattle.zone_board.specs.Creations.{draft_with, with_name, given_field, given_fields, first_of_type, first_record};
+ghost use Rattle.zone_board.specs.Creations.{given_field, given_fields, first_of_type, first_record};
 ghost use Rattle.zone_board.specs.Askings.{commit_by, one_done, IsOfOwner};
 
 use crate::find::is_taken;
-use board_model::Word;
 use ck_base::limits::RECORD_SIZE;
 use ck_base::{Items, NoMemory, RecordName, UserName, ZoneKey};
-use ck_records::{Body, Draft, Field, Fields, Record, Stamp, Wish, copy_record, record_size};
-use field_values::copy_value;
-use modify_ops::name_of_word;
+use record_model::{
+    Body, Draft, Field, Fields, Record, Stamp, Wish, copy_record, copy_value, record_size,
+};
 use std::alloc::Global;
 use zone_model::{Act, Commit, Event, Op, OpFault, Outcome, Write};
 
@@ -26,18 +25,6 @@ pub(crate) struct Asking<'a> {
     pub(crate) user: &'a UserName,
     pub(crate) key: &'a ZoneKey,
     pub(crate) moment: u64,
-}
-
-/// The name of a creation's record: the one that it gives, or else that of the next word.
-pub(crate) fn name_for(alloc: Global, op: &Op, words: &[Word]) -> Result<RecordName, NoMemory>
-    requires plain { is_plain_create op.now ≡ true }
-    requires word { draws_name op.now ≡ true → 0 < length words.now }
-    ensures { IfOk result (λ name. with_name op.now name ≡ named_by op.now (first_word words.now)) }
-{
-    match &op.draft.name {
-        Some(name) => Ok(name.clone()?),
-        None => name_of_word(alloc, &words[0]),
-    }
 }
 
 fn copy_given(alloc: Global, wish: &Wish) -> Result<Option<Field>, NoMemory>

@@ -9,7 +9,7 @@ ghost use Rattle.zone_model.specs.Zones.{zone_at};
 ghost use Rattle.zone_model.specs.OnePuts.{only_put, put_by, last_put, IsOnePut};
 
 use ck_base::{Items, NoMemory, RecordName, ZoneKey};
-use ck_records::{Record, copy_record};
+use record_model::{Record, copy_record};
 use std::alloc::Global;
 use zone_model::{Act, Commit, Event, Write};
 

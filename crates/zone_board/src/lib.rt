@@ -9,6 +9,3 @@ mod stripe;
 
 pub use board::{AskFault, Board};
 pub use solo::Solo;
-
-#[cfg(test)]
-mod tests;

@@ -23,7 +23,7 @@ pub struct Solo {
 impl Model for Solo {
     ghost use Rattle.std.specs.Prelude.{◌<◌, ℕ, List};
     ghost use Rattle.std.specs.Coded.{codes};
-    ghost use Rattle.field_values.specs.contracts.value.Value as field_value;
+    ghost use Rattle.record_model.specs.contracts.value.Value as field_value;
     ghost use Rattle.zone_model.specs.declared.events.Event.{Event};
     ghost use Rattle.zone_board.specs.Stripes.{histories_in, events_at};
     ghost use Rattle.zone_board.specs.Kept.{IsKept};

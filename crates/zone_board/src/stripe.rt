@@ -3,18 +3,18 @@ ghost use Rattle.std.specs.Prelude.{◌≡◌, ◌≤◌, ◌==◌, ℕ, ◌++�
 ghost use Rattle.std.specs.List.{AllByRecursion};
 ghost use Rattle.zone_model.specs.Events.{origin_of, log_of, own};
 ghost use Rattle.zone_model.specs.OnePuts.{IsOnePut};
-ghost use Rattle.modify_ops.specs.Drawing.{named_ops};
+ghost use Rattle.drawn_names.specs.Drawing.{named_ops};
 ghost use Rattle.board_model.specs.Parts.{AreBuilt, MayBeAsked};
 ghost use Rattle.board_model.specs.Asks.{sight, answer, commits_by, event_of, made, makes};
 ghost use Rattle.zone_board.specs.Kept.{IsKept, IsCreation};
 ghost use Rattle.zone_board.specs.Askings.{all_done, IsOfOwner};
 
 use crate::AskFault;
-use crate::create::{Asking, create_record, name_for};
+use crate::create::{Asking, create_record};
 use crate::find::find_records;
 use board_model::{Answer, Answered, Part, Word};
 use ck_base::{Items, NoMemory};
-use modify_ops::words_for;
+use drawn_names::{name_for, words_for};
 use std::alloc::Global;
 use zone_model::{Commit, Event, Op, Origin, Outcome};
 

@@ -1,7 +1,7 @@
 -- Which records stand at or above a name.
 use Rattle.std.specs.Prelude.{◌≡◌, ℕ, zero, suc, Bool, List, [], ◌∷◌, length, Option, Some, option_and_then}
 use Rattle.std.specs.Option.{option_map_or}
-use Rattle.ck_records.specs.declared.records.Record.{Record}
+use Rattle.record_model.specs.declared.records.Record.{Record}
 use Rattle.zone_model.specs.Names.{is_in}
 use Rattle.zone_model.specs.Records.{record_at}
 

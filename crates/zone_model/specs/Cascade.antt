@@ -1,7 +1,7 @@
 -- The cascade of removals: the least set of names that is closed under its rules.
 use Rattle.std.specs.Prelude.{◌≡◌, ℕ, zero, suc, Bool, true, not, ◌||◌, ◌&&◌, List, [], filter, length}
 use Rattle.std.specs.List.{list_any}
-use Rattle.ck_records.specs.declared.records.Record.{Record}
+use Rattle.record_model.specs.declared.records.Record.{Record}
 use Rattle.zone_model.specs.Names.{is_in}
 use Rattle.zone_model.specs.Options.{is_some_and}
 use Rattle.zone_model.specs.Records.{names_in}

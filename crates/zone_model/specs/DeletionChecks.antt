@@ -1,7 +1,7 @@
 -- The checks of deletions, in their order.
 use Rattle.std.specs.Prelude.{ℕ, Bool, not, ◌||◌, ◌&&◌, List, [], ◌∷◌, Option, is_some, is_none}
 use Rattle.std.specs.List.{list_any}
-use Rattle.ck_records.specs.declared.records.Record.{Record}
+use Rattle.record_model.specs.declared.records.Record.{Record}
 use Rattle.zone_model.specs.declared.operations.Op.{Op}
 use Rattle.zone_model.specs.declared.outcomes.OpFault.{OpFault}
 use Rattle.zone_model.specs.declared.outcomes.OpFault.TheVariants.{NotFound, Conflict, AccessDenied, Validating}

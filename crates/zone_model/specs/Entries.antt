@@ -1,7 +1,7 @@
 -- The change entries of a viewer, and those that are live.
 use Rattle.std.specs.Prelude.{ℕ, suc, Bool, not, nat_lt, List, [], ◌∷◌, ◌++◌, filter, if◌then◌else◌}
 use Rattle.std.specs.List.{list_any}
-use Rattle.ck_records.specs.declared.view.View.{View}
+use Rattle.record_model.specs.declared.view.View.{View}
 use Rattle.zone_model.specs.Names.{names_of_both}
 use Rattle.zone_model.specs.Records.{record_at, names_in}
 use Rattle.zone_model.specs.Same.{same_found}

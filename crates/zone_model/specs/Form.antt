@@ -4,15 +4,15 @@ use Rattle.std.specs.List.{AllByRecursion}
 use Rattle.ck_base.specs.Names.{IsName}
 use Rattle.ck_base.specs.Order.{are_ascending}
 use Rattle.ck_base.specs.declared.key.ZoneKey.{ZoneKey}
-use Rattle.field_values.specs.declared.value.Value.{Value, out-Value}
-use Rattle.field_values.specs.declared.value.Value.TheOpen.{Value-F}
-use Rattle.field_values.specs.Meant.{IsMeant}
-use Rattle.ck_records.specs.declared.filter.Filter.{Filter}
-use Rattle.ck_records.specs.declared.subscription.SubKind.{SubKind}
-use Rattle.ck_records.specs.declared.subscription.Subscription.{Subscription}
-use Rattle.ck_records.specs.declared.subscription.Fires.{Fires}
-use Rattle.ck_records.specs.Fits.{fits}
-use Rattle.ck_records.specs.Stored.{IsStored}
+use Rattle.record_model.specs.declared.value.Value.{Value, out-Value}
+use Rattle.record_model.specs.declared.value.Value.TheOpen.{Value-F}
+use Rattle.record_model.specs.ValueForms.{IsMeant}
+use Rattle.record_model.specs.declared.filter.Filter.{Filter}
+use Rattle.record_model.specs.declared.subscription.SubKind.{SubKind}
+use Rattle.record_model.specs.declared.subscription.Subscription.{Subscription}
+use Rattle.record_model.specs.declared.subscription.Fires.{Fires}
+use Rattle.record_model.specs.Fits.{fits}
+use Rattle.record_model.specs.RecordForms.{IsStored}
 use Rattle.zone_model.specs.declared.commits.Write.{Write}
 use Rattle.zone_model.specs.declared.commits.Write.TheVariants.{Put, Remove, PutRemove}
 use Rattle.zone_model.specs.declared.commits.Act.{Act}

@@ -1,6 +1,6 @@
 -- What a judgement rests on.
 use Rattle.std.specs.Prelude.{ℕ, Bool, not, ◌||◌, List, [], ◌∷◌, filter, find, Option, Some, None, decimal, if◌then◌else◌}
-use Rattle.ck_records.specs.declared.records.Record.{Record}
+use Rattle.record_model.specs.declared.records.Record.{Record}
 use Rattle.zone_model.specs.declared.operations.Op.{Op}
 use Rattle.zone_model.specs.declared.operations.Past.{Past}
 use Rattle.zone_model.specs.declared.outcomes.OpFault.{OpFault}

@@ -1,7 +1,7 @@
 -- The judgement of a request.
 use Rattle.std.specs.Prelude.{ℕ, Bool, List, [], ◌∷◌, map, Option, Some, if◌then◌else◌, unwrap_or, is_some}
 use Rattle.std.specs.List.{list_any}
-use Rattle.ck_records.specs.declared.view.View.{View}
+use Rattle.record_model.specs.declared.view.View.{View}
 use Rattle.zone_model.specs.declared.operations.Op.{Op}
 use Rattle.zone_model.specs.declared.operations.Past.{Past}
 use Rattle.zone_model.specs.declared.outcomes.OpFault.{OpFault}

@@ -2,9 +2,9 @@
 use Rattle.std.specs.Prelude.{◌≡◌, ℕ, suc, Bool, true, not, ◌&&◌, ◌==◌, nat_le, List, [], ◌∷◌, ◌++◌, length, is_none}
 use Rattle.std.specs.List.{list_all}
 use Rattle.share_records.specs.declared.share.Share.{Share as ShareOf}
-use Rattle.ck_records.specs.declared.records.Record.{Record}
-use Rattle.ck_records.specs.declared.subscription.Subscription.{Subscription}
-use Rattle.ck_records.specs.Sizes.{size_of_record}
+use Rattle.record_model.specs.declared.records.Record.{Record}
+use Rattle.record_model.specs.declared.subscription.Subscription.{Subscription}
+use Rattle.record_model.specs.RecordSizes.{size_of_record}
 use Rattle.ck_base.specs.declared.key.ZoneKey.{ZoneKey}
 use Rattle.zone_model.specs.declared.commits.Write.{Write}
 use Rattle.zone_model.specs.declared.commits.Write.TheVariants.{Put, Remove, PutRemove}

@@ -24,14 +24,14 @@ pub mod Views
 pub mod Entries
 -- a page of changes
 pub mod Pages
--- copies that are in step with a number, and the fold of a page
-pub mod Copies
 -- the feed of zones that changed for a user, at one lock
 pub mod ZoneEntries
 -- the feed over all locks
 pub mod ZoneFeed
 -- the puts and deletions of a request
 pub mod Requests
+-- the form of operations that some JSON means
+pub mod OpForms
 -- what has happened to the names that a request puts
 pub mod Past
 -- the participants of a share after a request
@@ -70,5 +70,3 @@ pub mod Events
 pub mod Legal
 -- the bounds of the work for a commit and for a page
 pub mod WorkBounds
--- the laws of the rules
-pub mod Laws

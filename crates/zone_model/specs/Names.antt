@@ -1,8 +1,9 @@
 -- Names, as their bytes: when two are the same, and lists of them.
-use Rattle.std.specs.Prelude.{ℕ, Bool, true, false, not, ◌&&◌, nat_eq, List, [], ◌∷◌, ◌++◌, filter, if◌then◌else◌, codes, Option, Some, None}
+use Rattle.std.specs.Prelude.{ℕ, Bool, true, false, not, ◌&&◌, nat_eq, List, [], ◌∷◌, ◌++◌, filter, if◌then◌else◌, Option, Some, None}
 use Rattle.std.specs.List.{list_any}
 use Rattle.std.specs.Cmp.Lexicographic.{pointwise}
 use Rattle.ck_base.specs.Order.{is_before}
+use Rattle.ck_base.specs.KnownNames.{default_zone}
 use Rattle.ck_base.specs.declared.key.ZoneKey.{ZoneKey}
 use Rattle.ck_base.specs.declared.scope.Scope.{Scope}
 use Rattle.ck_base.specs.declared.scope.Scope.TheVariants.{Private, Shared}
@@ -44,10 +45,6 @@ names_of_both xs (y ∷ ys) = names_of_both (with_name xs y) ys
 
 abbrev pub same_key : ZoneKey → ZoneKey → Bool
 same_key k l = same k.owner l.owner && same k.zone l.zone
-
--- the zone that each user has from the start
-abbrev pub default_zone : List ℕ
-default_zone = codes "_defaultZone"
 
 abbrev pub is_default : ZoneKey → Bool
 is_default key = same key.zone default_zone

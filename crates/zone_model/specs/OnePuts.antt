@@ -1,7 +1,7 @@
 -- Logs whose commits put one record each: the zone has what was put last under each name.
 use Rattle.std.specs.Prelude.{◌≡◌, ℕ, Bool, true, ◌&&◌, List, [], ◌∷◌, fold, count_by, Option, Some, None, is_some, if◌then◌else◌, option_and_then}
 use Rattle.ck_base.specs.declared.key.ZoneKey.{ZoneKey}
-use Rattle.ck_records.specs.declared.records.Record.{Record}
+use Rattle.record_model.specs.declared.records.Record.{Record}
 use Rattle.zone_model.specs.declared.commits.Write.{Write}
 use Rattle.zone_model.specs.declared.commits.Write.TheVariants.{Put, Remove, PutRemove}
 use Rattle.zone_model.specs.declared.commits.Act.{Act}

@@ -1,8 +1,8 @@
 -- A page of changes.
 use Rattle.std.specs.Prelude.{ℕ, Bool, nat_lt, List, [], ◌∷◌, map, take, length, if◌then◌else◌}
 use Rattle.std.specs.Option.{option_map_or}
-use Rattle.ck_records.specs.declared.records.Record.{Record}
-use Rattle.ck_records.specs.declared.view.View.{View}
+use Rattle.record_model.specs.declared.records.Record.{Record}
+use Rattle.record_model.specs.declared.view.View.{View}
 use Rattle.zone_model.specs.declared.pages.Item.{Item}
 use Rattle.zone_model.specs.declared.pages.Item.TheVariants.{There, Gone}
 use Rattle.zone_model.specs.declared.pages.ZonePage.{ZonePage}

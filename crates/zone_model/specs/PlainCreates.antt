@@ -2,15 +2,15 @@
 use Rattle.std.specs.Prelude.{◌≡◌, ℕ, suc, Bool, true, false, not, ◌||◌, ◌&&◌, nat_lt, List, [], Option, Some, None, is_none, if◌then◌else◌, unwrap_or}
 use Rattle.std.specs.List.{list_all}
 use Rattle.ck_base.specs.declared.scope.Scope.TheVariants.{Private}
-use Rattle.field_values.specs.declared.value.Action.{Action}
-use Rattle.field_values.specs.declared.value.RefTo.{RefTo}
-use Rattle.field_values.specs.declared.value.Value.{Value}
-use Rattle.ck_records.specs.declared.draft.Draft.{Draft}
-use Rattle.ck_records.specs.declared.draft.ParentWish.{ParentWish}
-use Rattle.ck_records.specs.declared.records.Body.TheVariants.{Plain}
-use Rattle.ck_records.specs.declared.records.Stamp.{Stamp}
-use Rattle.ck_records.specs.declared.records.Record.{Record}
-use Rattle.ck_records.specs.Sizes.{size_of_record}
+use Rattle.record_model.specs.declared.value.Action.{Action}
+use Rattle.record_model.specs.declared.value.RefTo.{RefTo}
+use Rattle.record_model.specs.declared.value.Value.{Value}
+use Rattle.record_model.specs.declared.draft.Draft.{Draft}
+use Rattle.record_model.specs.declared.draft.ParentWish.{ParentWish}
+use Rattle.record_model.specs.declared.records.Body.TheVariants.{Plain}
+use Rattle.record_model.specs.declared.records.Stamp.{Stamp}
+use Rattle.record_model.specs.declared.records.Record.{Record}
+use Rattle.record_model.specs.RecordSizes.{size_of_record}
 use Rattle.zone_model.specs.declared.operations.Op.{Op}
 use Rattle.zone_model.specs.declared.outcomes.OpFault.{OpFault}
 use Rattle.zone_model.specs.declared.outcomes.OpFault.TheVariants.{Exists, BadRequest}

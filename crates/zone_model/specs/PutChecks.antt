@@ -1,16 +1,16 @@
 -- The checks of puts, in their order.
 use Rattle.std.specs.Prelude.{ℕ, Bool, not, ◌||◌, ◌&&◌, nat_lt, List, [], ◌∷◌, Option, None, is_some, is_none, if◌then◌else◌, option_and_then}
 use Rattle.std.specs.List.{list_any}
-use Rattle.field_values.specs.declared.value.RefTo.{RefTo}
-use Rattle.field_values.specs.declared.value.Value.{Value}
-use Rattle.ck_records.specs.declared.records.Record.{Record}
-use Rattle.ck_records.specs.Sizes.{size_of_record}
+use Rattle.record_model.specs.declared.value.RefTo.{RefTo}
+use Rattle.record_model.specs.declared.value.Value.{Value}
+use Rattle.record_model.specs.declared.records.Record.{Record}
+use Rattle.record_model.specs.RecordSizes.{size_of_record}
 use Rattle.zone_model.specs.declared.outcomes.OpFault.{OpFault}
 use Rattle.zone_model.specs.declared.outcomes.OpFault.TheVariants.{Exists, NotFound, Conflict, BadRequest, AccessDenied, Validating}
 use Rattle.zone_model.specs.Limits.{most_record_size}
 use Rattle.zone_model.specs.Names.{same, same_option, is_in, is_default, is_shared}
 use Rattle.zone_model.specs.Options.{is_some_and}
-use Rattle.ck_records.specs.Stored.{is_share_type}
+use Rattle.record_model.specs.RecordForms.{is_share_type}
 use Rattle.zone_model.specs.Records.{record_at, is_share}
 use Rattle.zone_model.specs.References.{references_in, validates}
 use Rattle.zone_model.specs.Ancestry.{is_ancestor}

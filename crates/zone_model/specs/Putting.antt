@@ -2,12 +2,12 @@
 use Rattle.std.specs.Prelude.{ℕ, List, [], ◌∷◌, ◌++◌, not, filter, filter_map, fold, Option, Some, None, if◌then◌else◌, unwrap_or}
 use Rattle.std.specs.Option.{option_map_or}
 use Rattle.ck_base.specs.Order.{is_before}
-use Rattle.field_values.specs.declared.value.Value.{Value}
-use Rattle.ck_records.specs.declared.draft.Draft.{Draft}
-use Rattle.ck_records.specs.declared.records.Stamp.{Stamp}
-use Rattle.ck_records.specs.declared.records.Body.{Body}
-use Rattle.ck_records.specs.declared.records.Body.TheVariants.{Plain, Share}
-use Rattle.ck_records.specs.declared.records.Record.{Record}
+use Rattle.record_model.specs.declared.value.Value.{Value}
+use Rattle.record_model.specs.declared.draft.Draft.{Draft}
+use Rattle.record_model.specs.declared.records.Stamp.{Stamp}
+use Rattle.record_model.specs.declared.records.Body.{Body}
+use Rattle.record_model.specs.declared.records.Body.TheVariants.{Plain, Share}
+use Rattle.record_model.specs.declared.records.Record.{Record}
 use Rattle.zone_model.specs.Names.{same}
 use Rattle.zone_model.specs.Records.{record_at}
 use Rattle.zone_model.specs.Requests.{Putting, name_of_put, makes_new, changes_old, drops_fields, has_share_type, new_parent, root_given, first_puts}

@@ -3,9 +3,9 @@ use Rattle.std.specs.Prelude.{◌≡◌, ℕ, Bool, true, not, List, ◌∷◌, 
 use Rattle.std.specs.List.{list_any}
 use Rattle.ck_base.specs.Order.{is_before, are_ascending}
 use Rattle.share_records.specs.declared.share.Share.{Share as ShareOf}
-use Rattle.ck_records.specs.declared.records.Body.{Body}
-use Rattle.ck_records.specs.declared.records.Body.TheVariants.{Plain, Share}
-use Rattle.ck_records.specs.declared.records.Record.{Record}
+use Rattle.record_model.specs.declared.records.Body.{Body}
+use Rattle.record_model.specs.declared.records.Body.TheVariants.{Plain, Share}
+use Rattle.record_model.specs.declared.records.Record.{Record}
 use Rattle.zone_model.specs.Names.{same}
 
 -- the record of that name

@@ -1,11 +1,11 @@
 -- The references of records to others of their zone.
 use Rattle.std.specs.Prelude.{ℕ, Bool, true, false, ◌&&◌, List, [], ◌∷◌, flat_map}
 use Rattle.std.specs.List.{list_any}
-use Rattle.field_values.specs.declared.value.Action.{Action}
-use Rattle.field_values.specs.declared.value.RefTo.{RefTo}
-use Rattle.field_values.specs.declared.value.Value.{Value, out-Value}
-use Rattle.field_values.specs.declared.value.Value.TheOpen.{Value-F}
-use Rattle.ck_records.specs.declared.records.Record.{Record}
+use Rattle.record_model.specs.declared.value.Action.{Action}
+use Rattle.record_model.specs.declared.value.RefTo.{RefTo}
+use Rattle.record_model.specs.declared.value.Value.{Value, out-Value}
+use Rattle.record_model.specs.declared.value.Value.TheOpen.{Value-F}
+use Rattle.record_model.specs.declared.records.Record.{Record}
 use Rattle.zone_model.specs.Names.{same}
 
 abbrev pub single_references : Value-F Value → List RefTo

@@ -3,11 +3,11 @@ use Rattle.std.specs.Prelude.{ℕ, Bool, true, false, not, ◌&&◌, List, [], �
 use Rattle.std.specs.Option.{option_map_or}
 use Rattle.ck_base.specs.declared.key.ZoneKey.{ZoneKey}
 use Rattle.ck_base.specs.declared.scope.Scope.{Scope}
-use Rattle.ck_records.specs.declared.draft.Draft.{Draft}
-use Rattle.ck_records.specs.declared.draft.ForRoot.{ForRoot}
-use Rattle.ck_records.specs.declared.draft.ParentWish.{ParentWish}
-use Rattle.ck_records.specs.declared.records.Record.{Record}
-use Rattle.ck_records.specs.Stored.{is_share_type}
+use Rattle.record_model.specs.declared.draft.Draft.{Draft}
+use Rattle.record_model.specs.declared.draft.ForRoot.{ForRoot}
+use Rattle.record_model.specs.declared.draft.ParentWish.{ParentWish}
+use Rattle.record_model.specs.declared.records.Record.{Record}
+use Rattle.record_model.specs.RecordForms.{is_share_type}
 use Rattle.zone_model.specs.declared.operations.OpKind.{OpKind}
 use Rattle.zone_model.specs.declared.operations.OpKind.TheVariants.{Create, Update, ForceUpdate, Replace, ForceReplace, Delete, ForceDelete}
 use Rattle.zone_model.specs.declared.operations.Op.{Op}

@@ -7,7 +7,7 @@ use Rattle.share_records.specs.declared.participant.PartKind.{PartKind}
 use Rattle.share_records.specs.declared.participant.Participant.{Participant}
 use Rattle.share_records.specs.declared.participant.Wanted.{Wanted}
 use Rattle.share_records.specs.declared.share.Share.{Share as ShareOf}
-use Rattle.ck_records.specs.declared.draft.Draft.{Draft}
+use Rattle.record_model.specs.declared.draft.Draft.{Draft}
 use Rattle.zone_model.specs.Limits.{most_participants}
 use Rattle.zone_model.specs.Names.{same, is_in, has_twice}
 use Rattle.zone_model.specs.Options.{is_some_and}

@@ -2,14 +2,15 @@
 use Rattle.std.specs.Prelude.{ℕ, Bool, not, ◌||◌, ◌&&◌, nat_lt, ◌==◌, List, [], ◌∷◌, ◌++◌, filter, fold, unwrap_or}
 use Rattle.std.specs.List.{list_any}
 use Rattle.ck_base.specs.Order.{is_before}
+use Rattle.ck_base.specs.KnownNames.{own_default}
 use Rattle.ck_base.specs.declared.key.ZoneKey.{ZoneKey}
 use Rattle.ck_base.specs.declared.scope.Scope.{Scope}
 use Rattle.ck_base.specs.declared.scope.Scope.TheVariants.{Private, Shared}
-use Rattle.ck_records.specs.declared.subscription.Subscription.{Subscription}
+use Rattle.record_model.specs.declared.subscription.Subscription.{Subscription}
 use Rattle.zone_model.specs.declared.commits.Act.{Act}
 use Rattle.zone_model.specs.declared.commits.Act.TheVariants.{Writes, MakeZone, DropZone, SetSubscription, DropSubscription}
 use Rattle.zone_model.specs.declared.commits.Commit.{Commit}
-use Rattle.zone_model.specs.Names.{same, default_zone}
+use Rattle.zone_model.specs.Names.{same}
 use Rattle.zone_model.specs.Zones.{commits_at}
 
 abbrev pub scope_place : Scope → ℕ
@@ -40,9 +41,6 @@ subscriptions_after subs (DropSubscription scope id) = filter (λ s. not (is_sub
 -- for each scope and name the one that the commits of the key set last and did not drop since, in ascending order
 abbrev pub subscriptions_at : List Commit → ZoneKey → List Subscription
 subscriptions_at log key = fold (λ subs (c : Commit). subscriptions_after subs c.act) [] (commits_at log key)
-
-abbrev pub own_default : List ℕ → ZoneKey
-own_default user = record { owner = user; zone = default_zone }
 
 -- those of a user in a scope, which the key of the user's default zone has
 abbrev pub subscriptions_of : List Commit → List ℕ → Scope → List Subscription

@@ -4,8 +4,8 @@ use Rattle.std.specs.List.{list_any}
 use Rattle.ck_base.specs.declared.key.ZoneKey.{ZoneKey}
 use Rattle.ck_base.specs.declared.scope.Scope.{Scope}
 use Rattle.ck_base.specs.declared.scope.Scope.TheVariants.{Private, Shared}
-use Rattle.ck_records.specs.declared.records.Record.{Record}
-use Rattle.ck_records.specs.declared.view.View.{View}
+use Rattle.record_model.specs.declared.records.Record.{Record}
+use Rattle.record_model.specs.declared.view.View.{View}
 use Rattle.zone_model.specs.declared.commits.Commit.{Commit}
 use Rattle.zone_model.specs.Names.{same, is_default}
 use Rattle.zone_model.specs.Options.{is_some_and}

@@ -2,7 +2,7 @@
 use Rattle.std.specs.Prelude.{ℕ, Bool, true, false, List, [], filter, fold, count_by}
 use Rattle.std.specs.List.{list_any}
 use Rattle.ck_base.specs.declared.key.ZoneKey.{ZoneKey}
-use Rattle.ck_records.specs.declared.records.Record.{Record}
+use Rattle.record_model.specs.declared.records.Record.{Record}
 use Rattle.zone_model.specs.declared.commits.Write.{Write}
 use Rattle.zone_model.specs.declared.commits.Write.TheVariants.{Put, Remove, PutRemove}
 use Rattle.zone_model.specs.declared.commits.Act.{Act}

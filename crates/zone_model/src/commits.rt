@@ -1,6 +1,6 @@
 // What changes a zone.
 use ck_base::{Items, RecordName, Scope, UserName, ZoneKey};
-use ck_records::{Record, Subscription};
+use record_model::{Record, Subscription};
 
 /// One change of a record.
 #[derive(Debug, Drop)]

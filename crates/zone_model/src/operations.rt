@@ -1,6 +1,6 @@
 // What a request asks for.
 use ck_base::{Items, RecordName};
-use ck_records::Draft;
+use record_model::Draft;
 
 /// What an operation does.
 #[derive(Clone, Copy, Debug, PartialEq, Eq)]

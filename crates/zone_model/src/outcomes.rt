@@ -1,7 +1,7 @@
 // What an operation is answered.
 use crate::Commits;
 use ck_base::{Items, RecordName};
-use ck_records::Record;
+use record_model::Record;
 
 /// Why an operation is refused. The names are those of "Error Codes" in the CloudKit Web Services
 /// Reference.

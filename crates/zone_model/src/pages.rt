@@ -1,6 +1,6 @@
 // What has changed in a zone.
 use ck_base::{Items, RecordName};
-use ck_records::Record;
+use record_model::Record;
 
 /// A name that has changed.
 #[derive(Debug, Drop)]

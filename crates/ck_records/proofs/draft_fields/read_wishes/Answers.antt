@@ -1,6 +1,6 @@
 use Rattle.std.proofs.Common.{sym, subst}
 use Rattle.ck_records.specs.DraftFields.{wish_of}
-use Rattle.ck_records.specs.Meant.{IsWish, AreWishes}
+use Rattle.record_model.specs.DraftForms.{IsWish, AreWishes}
 use Rattle.ck_records.proofs.LoopLemmas.{all_more}
 use Rattle.ck_records.proofs.WishLemmas.{wish_read, wishes_ascend}
 use Rattle.ck_records.proofs.draft_fields.read_wishes.Goals as goal

@@ -3,7 +3,7 @@ use Rattle.std.specs.List.{AllByRecursion}
 use Rattle.serde_json.specs.View.{members_view}
 use Rattle.field_values.specs.Results.{result_map, each_or_first_error}
 use Rattle.ck_records.specs.DraftFields.{entries, wish_of}
-use Rattle.ck_records.specs.Meant.{IsWish}
+use Rattle.record_model.specs.DraftForms.{IsWish}
 use Rattle.ck_records.proofs.draft_fields.read_wishes.Given as goal
 
 abbrev pub invariant-loop-name : goal.invariant-loop-name

@@ -2,7 +2,7 @@ use Rattle.std.proofs.Common.{◌≡◌, ◌∙◌, sym, ap, append-nil, rules}
 use Rattle.std.specs.Prelude.{Ok, Err, None, Some}
 use Rattle.ck_records.specs.Participants.{entry_of}
 use Rattle.serde_json.specs.View.{view}
-use Rattle.ck_records.specs.Meant.{IsWanted}
+use Rattle.record_model.specs.DraftForms.{IsWanted}
 use Rattle.ck_records.proofs.LoopLemmas.{all_more, entry_read, entry_refused}
 use Rattle.ck_records.proofs.participants.read_entries.Goals as goal
 

@@ -3,7 +3,7 @@ use Rattle.std.specs.List.{AllByRecursion}
 use Rattle.serde_json.specs.View.{view}
 use Rattle.field_values.specs.Results.{result_map}
 use Rattle.ck_records.specs.Participants.{entries_of}
-use Rattle.ck_records.specs.Meant.{IsWanted}
+use Rattle.record_model.specs.DraftForms.{IsWanted}
 use Rattle.ck_records.proofs.participants.read_entries.Given as goal
 
 abbrev pub invariant-loop-item : goal.invariant-loop-item

@@ -1,7 +1,7 @@
 use Rattle.std.proofs.Common.{rules}
 use Rattle.ck_records.specs.declared.fault.ReplyRecordFault.TheVariants.{NoMemory}
-use Rattle.ck_records.specs.Meant.{AreWishes}
-use Rattle.ck_records.specs.Stored.{AreFields}
+use Rattle.record_model.specs.DraftForms.{AreWishes}
+use Rattle.record_model.specs.RecordForms.{AreFields}
 use Rattle.ck_records.specs.Shown.{with_values}
 use Rattle.ck_records.proofs.ShownLemmas.{if_told, values_kept}
 use Rattle.ck_records.proofs.shown.read_values.Goals as goal

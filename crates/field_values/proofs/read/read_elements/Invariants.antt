@@ -3,7 +3,7 @@ use Rattle.std.specs.List.{AllByRecursion}
 use Rattle.serde_json.specs.View.{view}
 use Rattle.field_values.specs.Results.{result_map, each_or_first_error}
 use Rattle.field_values.specs.Reading.{single_of}
-use Rattle.field_values.specs.Meant.{IsElement}
+use Rattle.record_model.specs.ValueForms.{IsElement}
 use Rattle.field_values.proofs.read.read_elements.Given as goal
 
 abbrev pub invariant-loop-item : goal.invariant-loop-item

@@ -4,7 +4,7 @@ use Rattle.serde_json.specs.View.{view}
 use Rattle.ck_records.proofs.LoopLemmas.{all_more}
 use Rattle.modify_ops.specs.declared.fault.BadOps.TheVariants.{BadOp}
 use Rattle.modify_ops.specs.Forms.{op_of}
-use Rattle.modify_ops.specs.Meant.{IsMeantOp}
+use Rattle.zone_model.specs.OpForms.{IsMeantOp}
 use Rattle.modify_ops.proofs.LoopLemmas.{op_read}
 use Rattle.modify_ops.proofs.form.read_each.Goals as goal
 

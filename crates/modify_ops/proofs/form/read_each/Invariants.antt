@@ -3,7 +3,7 @@ use Rattle.std.specs.List.{AllByRecursion}
 use Rattle.serde_json.specs.View.{view}
 use Rattle.field_values.specs.Results.{result_map}
 use Rattle.modify_ops.specs.Forms.{ops_from}
-use Rattle.modify_ops.specs.Meant.{IsMeantOp}
+use Rattle.zone_model.specs.OpForms.{IsMeantOp}
 use Rattle.modify_ops.proofs.form.read_each.Given as goal
 
 abbrev pub invariant-loop-item : goal.invariant-loop-item

@@ -1,0 +1,20 @@
+// Numbers of lines.
+use crate::fault::LineFault;
+
+/// Reads a number.
+pub fn number_in(text: &str) -> Result<u64, LineFault> {
+    match text.parse::<u64>() {
+        Ok(number) => Ok(number),
+        Err(_) => Err(LineFault::Wrong("no number")),
+    }
+}
+
+/// Reads a number of copies, which is at most the given one.
+pub fn copies_in(text: &str, most: u64) -> Result<u64, LineFault> {
+    let copies = number_in(text)?;
+    if copies <= most {
+        Ok(copies)
+    } else {
+        Err(LineFault::Wrong("too many copies"))
+    }
+}

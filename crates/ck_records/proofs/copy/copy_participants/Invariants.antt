@@ -1,5 +1,0 @@
-use Rattle.std.proofs.Common.{◌≡◌, take}
-use Rattle.ck_records.proofs.copy.copy_participants.Given as goal
-
-abbrev pub invariant-loop-participant : goal.invariant-loop-participant
-invariant-loop-participant l = l.copies.items ≡ take l.participant-index l.participants

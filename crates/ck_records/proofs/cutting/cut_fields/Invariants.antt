@@ -1,7 +1,0 @@
-use Rattle.std.proofs.Common.{◌≡◌, take}
-use Rattle.std.specs.List.{filter}
-use Rattle.ck_records.specs.Cutting.{is_asked_for}
-use Rattle.ck_records.proofs.cutting.cut_fields.Given as goal
-
-abbrev pub invariant-loop-field : goal.invariant-loop-field
-invariant-loop-field l = l.kept.items ≡ filter (is_asked_for l.keys) (take l.field-index l.fields)

@@ -1,0 +1,14 @@
+//! Tests of what no row of a case file can carry: the order in which a conversation uses its devices,
+//! the devices in memory by themselves, the adapters over the system, and copies.
+#![tactic(auto)]
+
+#[cfg(test)]
+mod copy_tests;
+#[cfg(test)]
+mod memory_tests;
+#[cfg(test)]
+mod order_devices;
+#[cfg(test)]
+mod order_tests;
+#[cfg(test)]
+mod system_tests;

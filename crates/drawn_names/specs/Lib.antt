@@ -1,0 +1,2 @@
+-- what random words are drawn for
+pub mod Drawing

@@ -1,0 +1,414 @@
+-- Creations of records that stand alone.
+use Rattle.std.proofs.Common.{◌≡◌, ℕ, List, [], ◌∷◌, Bool, true, false, cond, not, ◌&&◌, ◌||◌, refl, sym, ap, ◌∙◌, subst, arith, Some, None, Option, map, length, append-nil}
+use Rattle.std.specs.Prelude.{drop, filter, filter_map, is_some, is_none, unwrap_or, if◌then◌else◌, option_and_then, nat_lt, fold, zip}
+use Rattle.std.specs.Option.{option_map_or}
+use Rattle.std.specs.List.{list_any, list_all, cons_option}
+use Rattle.std.proofs.Math.Bool.{and-false, or-false}
+use Rattle.std.proofs.lemmas.Bool.{not-true, both_ways, and_parts, or_left}
+use Rattle.std.proofs.lemmas.Option.{same_Some}
+use Rattle.ck_base.specs.declared.key.ZoneKey.{ZoneKey}
+use Rattle.ck_base.specs.declared.scope.Scope.TheVariants.{Private}
+use Rattle.record_model.specs.declared.value.Action.{Action}
+use Rattle.record_model.specs.declared.value.RefTo.{RefTo}
+use Rattle.record_model.specs.declared.value.Value.{Value}
+use Rattle.record_model.specs.declared.draft.Draft.{Draft}
+use Rattle.record_model.specs.declared.draft.ParentWish.{ParentWish}
+use Rattle.record_model.specs.declared.records.Body.TheVariants.{Plain, Share}
+use Rattle.record_model.specs.declared.records.Record.{Record}
+use Rattle.record_model.specs.declared.view.View.{View}
+use Rattle.record_model.specs.RecordSizes.{size_of_record}
+use Rattle.record_model.specs.RecordForms.{is_share_type}
+use Rattle.zone_model.specs.declared.operations.OpKind.{OpKind}
+use Rattle.zone_model.specs.declared.operations.OpKind.TheVariants.{Create, Update, ForceUpdate, Replace, ForceReplace, Delete, ForceDelete}
+use Rattle.zone_model.specs.declared.operations.Op.{Op}
+use Rattle.zone_model.specs.declared.operations.Past.{Past}
+use Rattle.zone_model.specs.declared.outcomes.OpFault.{OpFault}
+use Rattle.zone_model.specs.declared.outcomes.OpFault.TheVariants.{Exists, Conflict, BadRequest, Validating}
+use Rattle.zone_model.specs.declared.outcomes.Outcome.TheVariants.{Put as Placed, Deleted, Refused}
+use Rattle.zone_model.specs.declared.commits.Write.{Write}
+use Rattle.zone_model.specs.declared.commits.Write.TheVariants.{Put}
+use Rattle.zone_model.specs.declared.commits.Commit.{Commit}
+use Rattle.zone_model.specs.Limits.{most_record_size}
+use Rattle.zone_model.specs.Names.{same, is_in, is_default, same_option}
+use Rattle.zone_model.specs.Options.{is_some_and, is_none_or, or_else}
+use Rattle.zone_model.specs.Records.{record_at, is_there, is_share, IsAscending, with_record}
+use Rattle.zone_model.specs.References.{references_in, validates}
+use Rattle.zone_model.specs.Zones.{zone_at, puts_at}
+use Rattle.zone_model.specs.Ancestry.{is_ancestor}
+use Rattle.zone_model.specs.Views.{view_of, owner_view, nowhere}
+use Rattle.zone_model.specs.Requests.{Caller, Putting, name_of_draft, new_parent, has_share_type, root_given, root_tag_given, parent_given, is_create, first_guid}
+use Rattle.zone_model.specs.Past.{name_history, is_taken, past_of}
+use Rattle.zone_model.specs.Sharing.{is_refused_list, share_after, first_share}
+use Rattle.zone_model.specs.Putting.{new_record, written_over, no_stamp}
+use Rattle.zone_model.specs.Working.{is_share_of, with_puts, with_marks, mark_of, loses_mark}
+use Rattle.zone_model.specs.Grounds.{Grounds, grounds_of, is_stale, in_working, first_fault, Check}
+use Rattle.zone_model.specs.PutChecks.{is_hidden, has_shared_root, begins, root, root_seen, parent, is_name_taken, is_in_conflict, has_bad_form, is_dangling, lacks_target, is_plain_in_working, put_checks, fault_of_put, put_checks, is_in_view}
+use Rattle.zone_model.specs.Judging.{judgement, has_fault, together}
+use Rattle.zone_model.specs.Effect.{Request, working, is_put, is_new_share_of, after_leaving, after_puts, removed, stamp, stamped, is_unmarked, write_of, writes, effect, commits_with}
+use Rattle.zone_model.specs.Modifying.{request_at, judgement_at, done, outcome_of, modified_as_one, modified_apart, shown_with}
+use Rattle.zone_model.specs.PlainCreates.{IsOwner, gives_no_parent, gives_no_share, only_names, has_plain_references, is_plain_draft, drafted_record, created_record, is_too_large, refusal_of_create}
+use Rattle.zone_model.specs.OnePuts.{commit_of_put}
+use Rattle.zone_laws.specs.Laws.{OneIsEitherWay, OwnersSeeAll, PlainCreatesAreDone, PlainCreatesAreInForm}
+use Rattle.zone_laws.proofs.NameLaws.{same-refl}
+use Rattle.zone_laws.proofs.OrderLaws.{ascending-zone}
+use Rattle.zone_laws.proofs.RecordLaws.{found-with}
+use Rattle.zone_laws.proofs.JudgeLaws.{there-found}
+use Rattle.zone_laws.proofs.FormLaws.{fields-form}
+use Rattle.zone_laws.proofs.StoredLaws.{some_form}
+use Rattle.zone_laws.proofs.AloneLaws.{any_none, some_not, find_none, map_same, filtered_alone, mapped_alone, no_new_share, none_reached}
+
+-- ---- one operation alone
+
+pub one_either_way : OneIsEitherWay
+one_either_way caller moment log atomic op guids = by (atomic && not (is_default caller.key))
+  where
+    by : (b : Bool) → (if b then modified_as_one caller moment log (op ∷ []) guids else modified_apart caller moment log (op ∷ []) guids) ≡ modified_as_one caller moment log (op ∷ []) guids
+    by true = refl
+    by false =
+        let one = modified_as_one caller moment log (op ∷ []) guids in
+        λ i. record { outcomes = append-nil one.outcomes i; commits = append-nil one.commits i }
+
+-- ---- what a plain draft says
+
+none_is : {X : Type 0} (o : Option X) → is_none o ≡ true → o ≡ None
+none_is None e = refl
+none_is (Some x) e = absurd (both_ways false refl e)
+
+no_parent : (w : ParentWish) → gives_no_parent w ≡ true → unwrap_or (parent_given w) None ≡ None
+no_parent ParentWish.Absent e = refl
+no_parent ParentWish.Null e = refl
+no_parent (ParentWish.To p) e = absurd (both_ways false refl e)
+
+not_wanted : (a : Action) → only_names a ≡ true → validates a ≡ false
+not_wanted Action.Plain e = refl
+not_wanted Action.DeleteSelf e = refl
+not_wanted Action.Validate e = absurd (both_ways false refl e)
+
+none_lack : (lacks : RefTo → Bool) (qs : List RefTo) → list_all (λ (q : RefTo). only_names q.action) qs ≡ true → list_any (λ (q : RefTo). validates q.action && lacks q) qs ≡ false
+none_lack lacks [] all = refl
+none_lack lacks (q ∷ qs) all =
+    let parts = and_parts (only_names q.action) _ all in
+    let off = not_wanted q.action parts.0 in
+    let rest = none_lack lacks qs parts.1 in
+    λ i. (off i && lacks q) || rest i
+
+module _ (g : Grounds) (p : Putting) where
+  one_lacks : (o : Option Value) → is_none_or has_plain_references o ≡ true → is_some_and (lacks_target g p) o ≡ false
+  one_lacks None e = refl
+  one_lacks (Some v) e = none_lack (λ (q : RefTo). not (in_working g q.name)) (references_in v) e
+
+  all_lack : (wishes : List (List ℕ × Option Value)) → list_all (λ (wish : List ℕ × Option Value). is_none_or has_plain_references wish.1) wishes ≡ true
+      → list_any (λ (wish : List ℕ × Option Value). is_some_and (lacks_target g p) wish.1) wishes ≡ false
+  all_lack [] all = refl
+  all_lack (wish ∷ wishes) all =
+      let parts = and_parts (is_none_or has_plain_references wish.1) _ all in
+      let one = one_lacks wish.1 parts.0 in
+      let rest = all_lack wishes parts.1 in
+      λ i. one i || rest i
+
+-- what the test of plain drafts says
+record IsPlain (d : Draft) : Type 0 where
+  pub parent : new_parent d ≡ None
+  pub rtype : has_share_type d ≡ false
+  pub root : d.for_root ≡ None
+  pub public : d.public ≡ None
+  pub participants : d.participants ≡ None
+  pub fields : list_all (λ (wish : List ℕ × Option Value). is_none_or has_plain_references wish.1) d.fields ≡ true
+
+is_plain : (d : Draft) → is_plain_draft d ≡ true → IsPlain d
+is_plain d e =
+    let a = and_parts (gives_no_parent d.parent) _ e in
+    let b = and_parts (gives_no_share d) _ a.1 in
+    let c = and_parts (not (has_share_type d)) _ b.0 in
+    let f = and_parts (is_none d.for_root) _ c.1 in
+    let h = and_parts (is_none d.public) _ f.1 in
+    record {
+      parent = no_parent d.parent a.0;
+      rtype = not-true (has_share_type d) c.0;
+      root = none_is d.for_root f.0;
+      public = none_is d.public h.0;
+      participants = none_is d.participants h.1;
+      fields = b.1;
+    }
+
+-- ---- the judgement
+
+abbrev owner : ZoneKey → Caller
+owner key = record { user = key.owner; scope = Private; key = key }
+
+abbrev create : Draft → Op
+create d = record { kind = Create; draft = d }
+
+first_passes : (b : Bool) (fault : OpFault) (cs : List Check) → b ≡ true → first_fault ((b, fault) ∷ cs) ≡ Some fault
+first_passes b fault cs is = ap (λ c. if c then Some fault else first_fault cs) is
+
+module _ (key : ZoneKey) (pasts : List Past) (rows : List Record) (d : Draft) (plain : IsPlain d) where
+  abbrev its_grounds : Grounds
+  its_grounds = grounds_of (owner key) pasts rows (create d ∷ [])
+
+  abbrev its_put : Putting
+  its_put = record { kind = Create; draft = d; guid = [] }
+
+  fault_taken : is_there rows (name_of_draft d) ≡ true → fault_of_put its_grounds its_put [] ≡ refusal_of_create rows d
+  fault_taken is = first_passes (is_name_taken its_grounds its_put []) Exists (drop 1 (put_checks its_grounds its_put [])) (or_left (is_in_view its_grounds its_put)
+      (is_hidden its_grounds its_put || (is_in [] (name_of_draft d) || has_shared_root its_grounds its_put)) (ap (λ b. not (not b)) is))
+      ∙ sym (ap (λ b. if b then Some Exists else (if is_none d.rtype || is_too_large d then Some BadRequest else None)) is)
+
+  module _ (free : is_there rows (name_of_draft d) ≡ false) (unused : is_taken pasts (name_of_draft d) ≡ false) where
+    old_off : record_at rows (name_of_draft d) ≡ None
+    old_off = some_not (record_at rows (name_of_draft d)) (sym (there-found rows (name_of_draft d)) ∙ free)
+
+    begins_off : begins its_grounds its_put ≡ false
+    begins_off i = not (free i) && plain.rtype i
+
+    root_off : root its_grounds its_put ≡ None
+    root_off i = if begins_off i then root_given d else None
+
+    root_unseen : root_seen its_grounds its_put ≡ None
+    root_unseen i = option_and_then (record_at rows) (root_off i)
+
+    parent_off : parent its_grounds its_put ≡ None
+    parent_off i = if not (free i) then plain.parent i else None
+
+    taken_off : is_name_taken its_grounds its_put [] ≡ false
+    taken_off i = not (not (free i)) || ((not (free i) && unused i) || (false || is_some_and (λ (r : Record). is_some r.share) (root_unseen i)))
+
+    conflict_off : is_in_conflict its_grounds its_put ≡ false
+    conflict_off i = is_some_and (is_stale d.tag) (old_off i) || is_some_and (is_stale (root_tag_given d)) (root_unseen i)
+
+    form_is : has_bad_form its_grounds its_put ≡ (is_none d.rtype || is_too_large d)
+    form_is i =
+        (not (free i) && is_none d.rtype)
+        || (is_some_and (λ (r : Record). is_some_and (λ t. not (same r.rtype t)) d.rtype) (old_off i)
+        || (is_some_and (λ (r : Record). is_some_and (λ given. not (same_option r.parent given)) (parent_given d.parent)) (old_off i)
+        || ((begins_off i && is_none d.for_root)
+        || (((begins_off i || is_some_and is_share (old_off i)) && (is_default key || is_some (parent_off i)))
+        || ((not (begins_off i || is_some_and is_share (old_off i)) && (is_some (plain.root i) || (is_some (plain.public i) || is_some (plain.participants i))))
+        || (is_some_and (is_refused_list key.owner) (plain.participants i)
+        || is_some_and (λ (r : Record). nat_lt most_record_size (size_of_record r)) (written_over its_put (old_off i))))))))
+
+    dangling_off : is_dangling its_grounds its_put ≡ false
+    dangling_off i =
+        is_some_and (λ q. not (is_plain_in_working its_grounds its_put q) || is_ancestor its_grounds.working (name_of_draft d) q) (parent_off i)
+        || (is_some_and (λ x. not (is_plain_in_working its_grounds its_put x)) (root_off i) || all_lack its_grounds its_put d.fields plain.fields i)
+
+    fault_free : fault_of_put its_grounds its_put [] ≡ refusal_of_create rows d
+    fault_free = (λ i. if taken_off i then Some Exists else (if conflict_off i then Some Conflict else (if form_is i then Some BadRequest else (if dangling_off i then Some Validating else None))))
+        ∙ sym (ap (λ b. if b then Some Exists else (if is_none d.rtype || is_too_large d then Some BadRequest else None)) free)
+
+  fault_is : (b : Bool) → is_there rows (name_of_draft d) ≡ b → is_taken pasts (name_of_draft d) ≡ b → fault_of_put its_grounds its_put [] ≡ refusal_of_create rows d
+  fault_is true there taken = fault_taken there
+  fault_is false free unused = fault_free free unused
+
+-- ---- the effect
+
+module _ (key : ZoneKey) (moment : ℕ) (rows : List Record) (puts : List ℕ → ℕ) (d : Draft) (guids : List (List ℕ)) (plain : IsPlain d) (ascend : IsAscending rows) (free : is_there rows (name_of_draft d) ≡ false) where
+  abbrev its_request : Request
+  its_request = record { caller = owner key; moment = moment; seen = rows; rows = rows; puts = puts; ops = create d ∷ []; guids = guids }
+
+  abbrev drawn : Putting
+  drawn = record { kind = Create; draft = d; guid = first_guid guids }
+
+  abbrev all_rows : List Record
+  all_rows = with_record rows (drafted_record d)
+
+  abbrev its_record : Record
+  its_record = created_record key.owner moment puts d
+
+  begun : new_record drawn ≡ drafted_record d
+  begun i = record (drafted_record d) {
+    parent = plain.parent i;
+    body = if plain.rtype i then option_map_or (λ root. Share (share_after (first_share root (first_guid guids)) d)) (root_given d) Plain else Plain;
+  }
+
+  unfound : record_at rows (name_of_draft d) ≡ None
+  unfound = some_not (record_at rows (name_of_draft d)) (sym (there-found rows (name_of_draft d)) ∙ free)
+
+  puts_written : with_puts rows (create d ∷ []) guids ≡ all_rows
+  puts_written = (λ i. fold with_record rows (cons_option (written_over drawn (unfound i)) [])) ∙ ap (with_record rows) begun
+
+  unshared : (x : List ℕ) → list_any (λ (s : Record). is_share_of x s && not (is_there rows s.name)) all_rows ≡ false
+  unshared x = no_new_share rows (drafted_record d) x ascend refl
+
+  unlost : (x : List ℕ) → loses_mark Private rows (create d ∷ []) x ≡ false
+  unlost x = any_none (λ (s : Record). is_share_of x s && false) rows (λ s. and-false (is_share_of x s))
+
+  mark_stays : (r : Record) → mark_of Private rows (create d ∷ []) all_rows r ≡ r.share
+  mark_stays r i = or_else
+      (option_map_or (λ (s : Record). Some s.name) (find_none (λ (s : Record). is_share_of r.name s && not (is_there rows s.name)) all_rows (unshared r.name) i) None)
+      (if unlost r.name i then None else r.share)
+
+  working_is : working its_request ≡ all_rows
+  working_is = ap (with_marks Private rows (create d ∷ [])) puts_written
+      ∙ map_same (λ (r : Record). record r { share = mark_of Private rows (create d ∷ []) all_rows r }) (λ r i. record r { share = mark_stays r i }) all_rows
+
+  put_is : (x : List ℕ) → is_put its_request x ≡ same x (name_of_draft d)
+  put_is x = ap (λ rs. (same x (name_of_draft d) || false) || list_any (is_new_share_of its_request x) rs) working_is
+      ∙ ap (λ b. (same x (name_of_draft d) || false) || b) (unshared x) ∙ or-false (same x (name_of_draft d) || false) ∙ or-false (same x (name_of_draft d))
+
+  put_alone : filter (λ (r : Record). is_put its_request r.name) (working its_request) ≡ drafted_record d ∷ []
+  put_alone = (λ i. filter (λ (r : Record). put_is r.name i) (working_is i))
+      ∙ filtered_alone rows (drafted_record d) (λ (r : Record). same r.name (name_of_draft d)) (λ q off. off)
+      ∙ ap (λ b. cond b (drafted_record d ∷ []) []) (same-refl (name_of_draft d))
+
+  after_puts_is : after_puts its_request ≡ all_rows
+  after_puts_is = ap (λ some. map (after_leaving its_request) (fold with_record rows some)) put_alone ∙ map_same (after_leaving its_request) (λ r. refl) all_rows
+
+  none_removed : removed its_request ≡ []
+  none_removed = none_reached (after_puts its_request) (length (after_puts its_request))
+
+  unmarked_none : (r : Record) → is_unmarked its_request [] r ≡ false
+  unmarked_none r = any_none (λ (s : Record). is_share_of r.name s && false) (after_puts its_request) (λ s. and-false (is_share_of r.name s))
+
+  abbrev put_of : Bool → Record → Option Write
+  put_of b r = if b then Some (Put (stamped its_request r)) else None
+
+  write_is : (r : Record) → write_of its_request [] r ≡ put_of (same r.name (name_of_draft d)) r
+  write_is r = (λ i. if put_is r.name i || unmarked_none r i then Some (Put (record (stamped its_request r) { share = if unmarked_none r i then None else r.share })) else None)
+      ∙ ap (λ b. put_of b r) (or-false (same r.name (name_of_draft d)))
+
+  stamped_is : stamped its_request (drafted_record d) ≡ its_record
+  stamped_is i = record its_record { created = if free i then no_stamp else stamp its_request }
+
+  writes_are : writes its_request (removed its_request) ≡ Put its_record ∷ []
+  writes_are = ap (writes its_request) none_removed
+      ∙ (λ i. filter_map (λ (r : Record). write_is r i) (after_puts_is i))
+      ∙ mapped_alone rows (drafted_record d) (λ (r : Record). put_of (same r.name (name_of_draft d)) r) (λ q off. ap (λ b. put_of b q) off)
+      ∙ ap (λ b. cons_option (put_of b (drafted_record d)) []) (same-refl (name_of_draft d))
+      ∙ ap (λ r. Put r ∷ []) stamped_is
+
+  effect_is : effect its_request ≡ commit_of_put key key.owner moment its_record ∷ []
+  effect_is = ap (commits_with its_request) writes_are
+
+  found_new : record_at (working its_request) (name_of_draft d) ≡ Some (drafted_record d)
+  found_new = ap (λ rs. record_at rs (name_of_draft d)) working_is ∙ found-with rows (drafted_record d) (name_of_draft d)
+      ∙ ap (λ b. cond b (Some (drafted_record d)) (record_at rows (name_of_draft d))) (same-refl (name_of_draft d))
+
+  done_is : done its_request (create d) ≡ Placed its_record
+  done_is = ap (λ (o : Option Record). option_map_or (λ (r : Record). Placed (stamped its_request r)) o (Deleted (name_of_draft d))) found_new ∙ ap Placed stamped_is
+
+-- ---- the law
+
+alone : (o : Option OpFault) → together (o ∷ []) ≡ o ∷ []
+alone None = refl
+alone (Some f) = refl
+
+shown_by : (a b : Bool) (fault : OpFault) (seen : List Record) (op : Op) → (if a then Some Exists else (if b then Some BadRequest else None)) ≡ Some fault → shown_with fault seen op ≡ None
+shown_by true b fault seen op e = subst (λ f. shown_with f seen op ≡ None) (same_Some Exists fault e) refl
+shown_by false true fault seen op e = subst (λ f. shown_with f seen op ≡ None) (same_Some BadRequest fault e) refl
+shown_by false false fault seen op e = absurd (both_ways false refl (ap (λ (o : Option OpFault). option_map_or (λ _. true) o false) e))
+
+free_by : (a b : Bool) → (if a then Some Exists else (if b then Some BadRequest else None)) ≡ None → a ≡ false
+free_by true b e = absurd (both_ways true (ap (λ (o : Option OpFault). option_map_or (λ _. true) o false) e) refl)
+free_by false b e = refl
+
+view_is : (key : ZoneKey) (log : List Commit) → (zone_at log key).there ≡ true → view_of log key.owner Private key ≡ record { here = true; rows = (zone_at log key).rows }
+view_is key log there = ap (λ b. if b then owner_view (zone_at log key) else nowhere) (same-refl key.owner)
+    ∙ ap (λ b. if b then record { here = true; rows = (zone_at log key).rows } else nowhere) there
+
+module _ (key : ZoneKey) (moment : ℕ) (log : List Commit) (d : Draft) (there : (zone_at log key).there ≡ true) (plain : IsPlain d) where
+  past_is : is_taken (name_history log key (create d ∷ [])) (name_of_draft d) ≡ is_there (zone_at log key).rows (name_of_draft d)
+  past_is = ap (λ b. is_some_and (λ (p : Past). p.taken) (cond b (Some (past_of log key (name_of_draft d))) None)) (same-refl (name_of_draft d))
+
+  judged_at : judgement_at (owner key) moment log (create d ∷ []) ≡ refusal_of_create (zone_at log key).rows d ∷ []
+  judged_at = ap (λ v. judgement v (name_history log key (create d ∷ [])) (create d ∷ []) (owner key)) (view_is key log there)
+      ∙ ap (λ o. together (o ∷ [])) (fault_is key (name_history log key (create d ∷ [])) (zone_at log key).rows d plain (is_there (zone_at log key).rows (name_of_draft d)) refl past_is)
+      ∙ alone (refusal_of_create (zone_at log key).rows d)
+
+  refused_at : (guids : List (List ℕ)) (fault : OpFault) → refusal_of_create (zone_at log key).rows d ≡ Some fault
+      → modified_as_one (owner key) moment log (create d ∷ []) guids ≡ record { outcomes = Refused fault None ∷ []; commits = [] }
+  refused_at guids fault e =
+      let q = request_at (owner key) moment log (create d ∷ []) guids in
+      let judged = judged_at ∙ ap (λ o. o ∷ []) e in
+      (λ i. record { outcomes = map (outcome_of q) (zip (create d ∷ []) (judged i)); commits = if has_fault (judged i) then [] else effect q })
+      ∙ ap (λ o. record { outcomes = Refused fault o ∷ []; commits = [] }) (shown_by (is_there (zone_at log key).rows (name_of_draft d)) (is_none d.rtype || is_too_large d) fault q.seen (create d) e)
+
+  made_at : (guids : List (List ℕ)) → refusal_of_create (zone_at log key).rows d ≡ None
+      → (let r = created_record key.owner moment (puts_at log key) d in
+      modified_as_one (owner key) moment log (create d ∷ []) guids ≡ record { outcomes = Placed r ∷ []; commits = commit_of_put key key.owner moment r ∷ [] })
+  made_at guids e =
+      let rows = (zone_at log key).rows in
+      let free = free_by (is_there rows (name_of_draft d)) (is_none d.rtype || is_too_large d) e in
+      let judged = judged_at ∙ ap (λ o. o ∷ []) e in
+      let at : View → Request = λ v. record { caller = owner key; moment = moment; seen = v.rows; rows = rows; puts = puts_at log key; ops = create d ∷ []; guids = guids } in
+      (λ i. record { outcomes = map (outcome_of (at (view_is key log there i))) (zip (create d ∷ []) (judged i)); commits = if has_fault (judged i) then [] else effect (at (view_is key log there i)) })
+      ∙ (λ i. record {
+        outcomes = done_is key moment rows (puts_at log key) d guids plain (ascending-zone log key) free i ∷ [];
+        commits = effect_is key moment rows (puts_at log key) d guids plain (ascending-zone log key) free i;
+      })
+
+create_kind : (kind : OpKind) → is_create kind ≡ true → kind ≡ Create
+create_kind Create e = refl
+create_kind Update e = absurd (both_ways false refl e)
+create_kind ForceUpdate e = absurd (both_ways false refl e)
+create_kind Replace e = absurd (both_ways false refl e)
+create_kind ForceReplace e = absurd (both_ways false refl e)
+create_kind Delete e = absurd (both_ways false refl e)
+create_kind ForceDelete e = absurd (both_ways false refl e)
+
+owner_is : (caller : Caller) → IsOwner caller → caller ≡ owner caller.key
+owner_is caller own i = record { user = own.user i; scope = own.scope i; key = caller.key }
+
+create_is : (op : Op) → is_create op.kind ≡ true → op ≡ create op.draft
+create_is op e i = record { kind = create_kind op.kind e i; draft = op.draft }
+
+pub owners_see : OwnersSeeAll
+owners_see caller log own there = (λ i. view_of log (own.user i) (own.scope i) caller.key) ∙ view_is caller.key log there
+
+pub creates_done : PlainCreatesAreDone
+creates_done = record {
+  judged = λ caller moment log op own there plain.
+      let parts = and_parts (is_create op.kind) _ plain in
+      (λ i. judgement_at (owner_is caller own i) moment log (create_is op parts.0 i ∷ [])) ∙ judged_at caller.key moment log op.draft there (is_plain op.draft parts.1);
+  refused = λ caller moment log op guids fault own there plain e.
+      let parts = and_parts (is_create op.kind) _ plain in
+      (λ i. modified_as_one (owner_is caller own i) moment log (create_is op parts.0 i ∷ []) guids)
+      ∙ refused_at caller.key moment log op.draft there (is_plain op.draft parts.1) guids fault e;
+  made = λ caller moment log op guids own there plain e.
+      let parts = and_parts (is_create op.kind) _ plain in
+      (λ i. modified_as_one (owner_is caller own i) moment log (create_is op parts.0 i ∷ []) guids)
+      ∙ made_at caller.key moment log op.draft there (is_plain op.draft parts.1) guids e
+      ∙ sym (ap (λ user.
+      let r = created_record user moment (puts_at log caller.key) op.draft in
+      record { outcomes = Placed r ∷ []; commits = commit_of_put caller.key user moment r ∷ [] }) own.user);
+}
+
+-- ---- the form
+
+typed_by : (a b c : Bool) → (if a then Some Exists else (if b || c then Some BadRequest else None)) ≡ None → b ≡ false
+typed_by true b c e = absurd (both_ways true (ap (λ (o : Option OpFault). option_map_or (λ _. true) o false) e) refl)
+typed_by false true c e = absurd (both_ways true (ap (λ (o : Option OpFault). option_map_or (λ _. true) o false) e) refl)
+typed_by false false c e = refl
+
+named_by : (o : Option (List ℕ)) → is_some o ≡ true → is_none o ≡ false
+named_by None e = absurd (both_ways false refl e)
+named_by (Some x) e = refl
+
+plain_type : (o : Option (List ℕ)) → is_none o ≡ false → is_some_and is_share_type o ≡ false → is_share_type (unwrap_or o []) ≡ false
+plain_type None e off = absurd (both_ways true e refl)
+plain_type (Some x) e off = off
+
+pub creates_in_form : PlainCreatesAreInForm
+creates_in_form = record {
+  kept = λ user moment rows puts op plain e named meant is in_range counts.
+      let d = op.draft in
+      let p = is_plain d (and_parts (is_create op.kind) _ plain).1 in
+      let typed = typed_by (is_there rows (name_of_draft d)) (is_none d.rtype) (is_too_large d) e in
+      record {
+        name = some_form d.name (named_by d.name named) meant.name;
+        rtype = some_form d.rtype typed meant.rtype;
+        tag = (omega arith, counts);
+        parent = tt;
+        share = tt;
+        fields = fields-form d.fields [] meant.fields.0 (tt, refl);
+        created = record { moment = in_range; user = is };
+        modified = record { moment = in_range; user = is };
+        body = plain_type d.rtype typed p.rtype;
+      };
+  formed = λ key user moment r its_key is in_range stored. record {
+    key = its_key;
+    user = is;
+    moment = in_range;
+    act = record { some = (omega arith, omega arith); each = (stored, tt); ordered = refl };
+  };
+}

@@ -1,0 +1,15 @@
+//! The laws of the rules of zones. Each is the clause of a small function of `laws`, which does
+//! nothing; who needs a law cites its lemma in `proofs/`.
+#![tactic(auto)]
+
+mod laws;
+
+pub use laws::{
+    alike_is_same, ancestors_are_found, conflicts_show_records, copies_stay_in_step,
+    each_is_judged, effects_are_in_form, effects_are_in_order, effects_are_lawful,
+    equal_views_give_none, feeds_lose_nothing, histories_stay_legal, nothing_else_is_seen,
+    nothing_is_in_step, one_is_either_way, one_put_more, others_change_nothing, owners_see_all,
+    pages_keep_in_step, permissions_are_seen, plain_creates_are_done, plain_creates_are_in_form,
+    puts_are_found, records_stay_in_order, removal_is_least, repeats_are_dropped,
+    shared_changes_are_permitted, views_grow, zone_entries_grow, zones_grow,
+};

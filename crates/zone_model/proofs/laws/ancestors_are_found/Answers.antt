@@ -1,5 +1,0 @@
-use Rattle.zone_model.proofs.AncestryLaws.{is_ancestor_from, is_ancestor_gives}
-use Rattle.zone_model.proofs.laws.ancestors_are_found.Goals as goal
-
-pub returns : goal.returns
-returns c = record { found = is_ancestor_from; others = is_ancestor_gives }

@@ -1,5 +1,0 @@
-use Rattle.zone_model.proofs.ConflictLaws.{conflicts_shown}
-use Rattle.zone_model.proofs.laws.conflicts_show_records.Goals as goal
-
-pub returns : goal.returns
-returns c = conflicts_shown

@@ -1,5 +1,0 @@
-use Rattle.zone_model.proofs.StoredLaws.{effects_form}
-use Rattle.zone_model.proofs.laws.effects_are_in_form.Goals as goal
-
-pub returns : goal.returns
-returns c = effects_form

@@ -1,5 +1,0 @@
-use Rattle.zone_model.proofs.EffectLaws.{effects_in_order}
-use Rattle.zone_model.proofs.laws.effects_are_in_order.Goals as goal
-
-pub returns : goal.returns
-returns c = effects_in_order

@@ -1,5 +1,0 @@
-use Rattle.zone_model.proofs.LegalLaws.{histories_legal}
-use Rattle.zone_model.proofs.laws.histories_stay_legal.Goals as goal
-
-pub returns : goal.returns
-returns c = histories_legal

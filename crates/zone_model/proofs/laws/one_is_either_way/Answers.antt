@@ -1,5 +1,0 @@
-use Rattle.zone_model.proofs.PlainLaws.{one_either_way}
-use Rattle.zone_model.proofs.laws.one_is_either_way.Goals as goal
-
-pub returns : goal.returns
-returns c = one_either_way

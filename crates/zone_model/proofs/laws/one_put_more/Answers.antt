@@ -1,5 +1,0 @@
-use Rattle.zone_model.proofs.OnePutLaws.{one_put_more}
-use Rattle.zone_model.proofs.laws.one_put_more.Goals as goal
-
-pub returns : goal.returns
-returns c = one_put_more

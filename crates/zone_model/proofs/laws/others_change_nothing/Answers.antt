@@ -1,5 +1,0 @@
-use Rattle.zone_model.proofs.LogLaws.{other_changes_nothing}
-use Rattle.zone_model.proofs.laws.others_change_nothing.Goals as goal
-
-pub returns : goal.returns
-returns c = other_changes_nothing

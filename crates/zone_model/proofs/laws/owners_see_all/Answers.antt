@@ -1,5 +1,0 @@
-use Rattle.zone_model.proofs.PlainLaws.{owners_see}
-use Rattle.zone_model.proofs.laws.owners_see_all.Goals as goal
-
-pub returns : goal.returns
-returns c = owners_see

@@ -1,5 +1,0 @@
-use Rattle.zone_model.proofs.PermissionLaws.{permissions_seen}
-use Rattle.zone_model.proofs.laws.permissions_are_seen.Goals as goal
-
-pub returns : goal.returns
-returns c = permissions_seen

@@ -1,5 +1,0 @@
-use Rattle.zone_model.proofs.OnePutLaws.{puts_found}
-use Rattle.zone_model.proofs.laws.puts_are_found.Goals as goal
-
-pub returns : goal.returns
-returns c = puts_found

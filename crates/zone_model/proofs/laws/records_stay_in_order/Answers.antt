@@ -1,5 +1,0 @@
-use Rattle.zone_model.proofs.OrderLaws.{stays_in_order}
-use Rattle.zone_model.proofs.laws.records_stay_in_order.Goals as goal
-
-pub returns : goal.returns
-returns c = stays_in_order

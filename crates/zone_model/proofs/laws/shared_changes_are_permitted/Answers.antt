@@ -1,5 +1,0 @@
-use Rattle.zone_model.proofs.SharedLaws.{changes_permitted}
-use Rattle.zone_model.proofs.laws.shared_changes_are_permitted.Goals as goal
-
-pub returns : goal.returns
-returns c = changes_permitted

@@ -1,5 +1,0 @@
-use Rattle.zone_model.proofs.RepeatLaws.{views_grow}
-use Rattle.zone_model.proofs.laws.views_grow.Goals as goal
-
-pub returns : goal.returns
-returns c = views_grow

@@ -1,5 +1,0 @@
-use Rattle.zone_model.proofs.EntryLaws.{zone_entries_grow}
-use Rattle.zone_model.proofs.laws.zone_entries_grow.Goals as goal
-
-pub returns : goal.returns
-returns c = zone_entries_grow

@@ -1,5 +1,0 @@
-use Rattle.zone_model.proofs.LogLaws.{zone-append, zone-snoc, puts-append, subscriptions-snoc}
-use Rattle.zone_model.proofs.laws.zones_grow.Goals as goal
-
-pub returns : goal.returns
-returns c = record { zone = zone-append; one = zone-snoc; puts = puts-append; subscriptions = subscriptions-snoc }

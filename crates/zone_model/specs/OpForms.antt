@@ -1,0 +1,32 @@
+-- The form of operations that some JSON means.
+use Rattle.std.specs.Prelude.{◌≡◌, ℕ, ◌||◌, Bool, true, false, List, [], Option, None, Some, is_some, IfSome, IsUtf8}
+use Rattle.ck_base.specs.Names.{IsName}
+use Rattle.record_model.specs.declared.draft.Draft.{Draft}
+use Rattle.record_model.specs.declared.draft.ParentWish.TheVariants.{Absent}
+use Rattle.record_model.specs.DraftForms.{IsMeantDraft}
+use Rattle.zone_model.specs.declared.operations.OpKind.{OpKind}
+use Rattle.zone_model.specs.declared.operations.Op.{Op}
+use Rattle.zone_model.specs.Requests.{is_deletion, is_create}
+
+-- a draft with a name, and perhaps a change tag, alone
+abbrev pub bare : List ℕ → Option (List ℕ) → Draft
+bare name tag = record { name = Some name; rtype = None; tag = tag; parent = Absent; fields = []; for_root = None; public = None; participants = None }
+
+pub record IsBare (d : Draft) : Type 0 where
+  pub given : List ℕ
+  pub name : IsName given
+  pub tag : IfSome d.tag IsUtf8
+  pub is : d ≡ bare given d.tag
+
+-- what some JSON means as the draft of an operation of the kind: that of a deletion has but a name and perhaps a tag
+abbrev pub IsMeantWhere : Bool → Draft → Type 0
+IsMeantWhere true d = IsBare d
+IsMeantWhere false d = IsMeantDraft d
+
+abbrev pub IsMeantAs : OpKind → Draft → Type 0
+IsMeantAs kind d = IsMeantWhere (is_deletion kind) d
+
+-- the draft is one that some JSON means, and only a create may be without a name
+pub record IsMeantOp (op : Op) : Type 0 where
+  pub draft : IsMeantAs op.kind op.draft
+  pub named : (is_create op.kind || is_some op.draft.name) ≡ true
