@@ -26,40 +26,42 @@ caller_in user scope key = record { user = user; scope = scope; key = key }
 abbrev pub guids_at : ZoneKey → List Op → List (List ℕ) → List (List ℕ)
 guids_at key ops words = guids_of (lock_of_names key.owner key.zone) ops words
 
+-- Each of these takes the lock that is asked beside the part, since a part need not tell it.
+
 -- what an ask is given to see
-abbrev pub sight : List Event → Part → Sight
-sight events (Modify user scope key atomic ops moment words) =
+abbrev pub sight : ℕ → List Event → Part → Sight
+sight lock events (Modify user scope key atomic ops moment words) =
     let caller = caller_in user scope key in
     let named = named_ops ops words in
     let before = op_sight caller moment (log_of events) named in
     modifying before (if not before.view.here || is_judged_as_one key atomic then [] else sights_of caller moment (log_of events) named (guids_at key ops words))
-sight events (Lookup user scope key names) = viewing (view_of (log_of events) user scope key)
+sight lock events (Lookup user scope key names) = viewing (view_of (log_of events) user scope key)
 
 -- what it answers
-abbrev pub answer : Sight → Part → Answer
-answer (modifying before each) (Modify user scope key atomic ops moment words) =
+abbrev pub answer : ℕ → Sight → Part → Answer
+answer lock (modifying before each) (Modify user scope key atomic ops moment words) =
     if before.view.here
     then ModifyAnswer (outcomes_by (caller_in user scope key) moment atomic before each (named_ops ops words) (guids_at key ops words))
     else NoZone
-answer (modifying before each) (Lookup user scope key names) = NoZone
-answer (viewing view) (Modify user scope key atomic ops moment words) = NoZone
-answer (viewing view) (Lookup user scope key names) = if view.here then LookupAnswer (map (record_at view.rows) names) else NoZone
+answer lock (modifying before each) (Lookup user scope key names) = NoZone
+answer lock (viewing view) (Modify user scope key atomic ops moment words) = NoZone
+answer lock (viewing view) (Lookup user scope key names) = if view.here then LookupAnswer (map (record_at view.rows) names) else NoZone
 
 -- the commits that it makes
-abbrev pub commits_by : List Event → Part → List Commit
-commits_by events (Modify user scope key atomic ops moment words) =
+abbrev pub commits_by : ℕ → List Event → Part → List Commit
+commits_by lock events (Modify user scope key atomic ops moment words) =
     if (view_of (log_of events) user scope key).here
     then commits_of_request (caller_in user scope key) moment (log_of events) atomic (named_ops ops words) (guids_at key ops words)
     else []
-commits_by events (Lookup user scope key names) = []
+commits_by lock events (Lookup user scope key names) = []
 
 -- the event of these commits, or none
 abbrev pub event_of : ℕ → List Event → List Commit → List Event
 event_of seat events [] = []
 event_of seat events (c ∷ cs) = Made (record { seat = seat; count = suc (length (own seat events)) }) (c ∷ cs) ∷ []
 
-abbrev pub made : ℕ → List Event → Part → List Event
-made seat events part = event_of seat events (commits_by events part)
+abbrev pub made : ℕ → ℕ → List Event → Part → List Event
+made lock seat events part = event_of seat events (commits_by lock events part)
 
 -- something is made
 abbrev pub makes : List Commit → Bool

@@ -1,6 +1,6 @@
 -- Which parts a lock may be asked.
-use Rattle.std.specs.Prelude.{◌≡◌, ℕ, ◌<◌, ◌≤◌, ◌^◌, true, List, length}
-use Rattle.std.specs.List.{AllByRecursion, list_all}
+use Rattle.std.specs.Prelude.{◌≡◌, ℕ, ◌<◌, ◌^◌, true, List, length}
+use Rattle.std.specs.List.{list_all}
 use Rattle.ck_base.specs.Names.{lock_of_names}
 use Rattle.ck_base.specs.declared.key.ZoneKey.{ZoneKey}
 use Rattle.ck_base.specs.declared.scope.Scope.{Scope}
@@ -9,7 +9,7 @@ use Rattle.zone_model.specs.declared.operations.Op.{Op}
 use Rattle.zone_model.specs.Names.{is_default}
 use Rattle.zone_model.specs.Form.{IsKey}
 use Rattle.zone_model.specs.PlainCreates.{is_plain_create}
-use Rattle.zone_model.specs.OpForms.{IsMeantOp}
+use Rattle.zone_model.specs.OpForms.{AreMeantOps}
 use Rattle.drawn_names.specs.Drawing.{words_drawn}
 use Rattle.board_model.specs.declared.parts.Part.{Part}
 use Rattle.board_model.specs.declared.parts.Part.TheVariants.{Modify, Lookup}
@@ -22,11 +22,10 @@ pub record IsOwnDefault (lock : ℕ) (user : List ℕ) (scope : Scope) (key : Zo
   pub in_default : is_default key ≡ true
   pub named : IsKey key
 
--- at most 200 creates of records that stand alone, with a word for each that draws one
+-- operations of a request, each a create of a record that stands alone, with a word for each that draws one
 pub record AreBuilt (ops : List Op) (moment : ℕ) (words : List (List ℕ)) : Type 0 where
-  pub few : length ops ≤ 200
+  pub meant : AreMeantOps ops
   pub plain : list_all is_plain_create ops ≡ true
-  pub meant : AllByRecursion IsMeantOp ops
   pub in_time : moment < 2 ^ 64
   pub enough : length words ≡ words_drawn ops
 

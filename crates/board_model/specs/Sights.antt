@@ -12,7 +12,7 @@ use Rattle.zone_model.specs.Past.{name_history}
 use Rattle.zone_model.specs.Requests.{Caller, guids_left}
 use Rattle.zone_model.specs.Judging.{judgement}
 use Rattle.zone_model.specs.Effect.{Request}
-use Rattle.zone_model.specs.Modifying.{is_judged_as_one, outcome_of, effect_at}
+use Rattle.zone_model.specs.Modifying.{is_judged_as_one, outcome_of, Step, steps}
 
 -- the caller's view of the zone, and what has happened to the names that operations put
 pub record OpSight : Type 0 where
@@ -35,9 +35,7 @@ module _ (caller : Caller) (moment : ℕ) where
 
   -- before each of the operations, which are done one after another
   abbrev pub sights_of : List Commit → List Op → List (List ℕ) → List OpSight
-  sights_of log [] guids = []
-  sights_of log (op ∷ ops) guids =
-      op_sight log (op ∷ []) ∷ sights_of (log ++ effect_at caller moment log (op ∷ []) guids) ops (guids_left op guids)
+  sights_of log ops guids = map (λ (s : Step). op_sight s.log (s.op ∷ [])) (steps caller moment log ops guids)
 
   -- a request as far as the caller sees the zone
   abbrev pub request_seen : OpSight → List Op → List (List ℕ) → Request

@@ -1,5 +1,6 @@
 // Numbers of lines.
 use crate::fault::LineFault;
+use std::alloc::{AllocError, Global};
 
 /// Reads a number.
 pub fn number_in(text: &str) -> Result<u64, LineFault> {
@@ -17,4 +18,15 @@ pub fn copies_in(text: &str, most: u64) -> Result<u64, LineFault> {
     } else {
         Err(LineFault::Wrong("too many copies"))
     }
+}
+
+/// A number in at least so many digits, with zeros in front.
+pub fn padded(alloc: Global, number: u64, digits: usize) -> Result<String, AllocError> {
+    let text = number.to_string(alloc)?;
+    let mut whole = String::new(alloc);
+    for _ in text.len()..digits {
+        whole.push_str("0")?;
+    }
+    whole.push_str(text.as_str())?;
+    Ok(whole)
 }

@@ -2,7 +2,7 @@
 pub mod Told
 -- names and the locks of zones
 pub mod Names
--- the order of names
+-- the order of names and of keys
 pub mod Order
 -- reading a name, with its first fault
 pub mod Reading

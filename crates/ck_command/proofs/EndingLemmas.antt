@@ -1,90 +1,109 @@
--- How a run may end, by what its words ask for.
-use Rattle.std.proofs.Common.{◌≡◌, ◌≢◌, ℕ, refl, arith}
-use Rattle.std.specs.Prelude.{◌↔◌, Option, None, Some}
+-- The status of a run, by what its words ask for.
+use Rattle.std.proofs.Common.{◌≡◌, ◌≢◌, ℕ, sym, ap, ◌∙◌, refl, arith, inl, inr, List, Result, Ok, Err}
+use Rattle.std.specs.Prelude.{◌↔◌, ◌⊎◌, Option, None, Some}
+use Rattle.ck_devices.specs.Causes.{Rose}
 use Rattle.ck_devices.specs.Files.{Files}
+use Rattle.zone_model.specs.declared.events.Event.{Event}
+use Rattle.zone_model.specs.Histories.{Histories}
+use Rattle.http_front.specs.Users.{Table}
 use Rattle.talk_model.specs.declared.ends.End.{End}
 use Rattle.talk_model.specs.declared.ends.End.TheVariants as end
+use Rattle.talk_model.specs.declared.ends.TalkFaultKind.{TalkFaultKind}
+use Rattle.talk_model.specs.declared.ends.TalkFaultKind.TheVariants as fault
+use Rattle.talk_model.specs.Given.{Given}
 use Rattle.ck_command.specs.declared.endings.Ending.{Ending}
 use Rattle.ck_command.specs.declared.endings.Ending.TheVariants.{Done, DeviceFault, WrongWords, BadFile, Early, OutOfMemory}
 use Rattle.ck_command.specs.Arguments.{RunArguments}
-use Rattle.ck_command.specs.Endings.{status_of, ending_of, IsEarly, MayRefuse, MayServe, MayEnd}
-use Rattle.ck_command.specs.UsersFile.{HoldsUsers, AsksForNoTable}
+use Rattle.ck_command.specs.Endings.{status_of, ending_by, MayRefuse}
+use Rattle.ck_command.specs.Serving.{Devices, IsTableIn, Runs}
+use Rattle.ck_command.specs.UsersFile.{table_in, AsksForNoTable}
 use Rattle.ck_command.specs.Runs.{IsThreeAtNoTable}
 
-wrong : (files : Option Files) (asked : Option RunArguments) (ending : Ending) → MayEnd files asked ending → status_of ending ≡ 2 → asked ≡ None
-wrong files None ending h e = refl
-wrong files (Some asked) Done h e = absurd (cc)
-wrong files (Some asked) DeviceFault h e = absurd (cc)
-wrong files (Some asked) WrongWords h e = absurd h
-wrong files (Some asked) (BadFile bad) h e = absurd (cc)
-wrong files (Some asked) (Early at) h e = absurd (cc)
-wrong files (Some asked) OutOfMemory h e = absurd (cc)
+-- a run that served is not refused
+served_two : (o : Result End TalkFaultKind) → status_of (ending_by o) ≡ 2 → ⊥
+served_two (Ok end.Closed) e = cc
+served_two (Ok end.CloseAsked) e = cc
+served_two (Ok end.Cut) e = cc
+served_two (Ok end.BadHead) e = cc
+served_two (Ok end.HeadTooLong) e = cc
+served_two (Ok end.NoLength) e = cc
+served_two (Ok end.BodyTooLong) e = cc
+served_two (Ok end.Spent) e = cc
+served_two (Ok end.NotBuilt) e = cc
+served_two (Err fault.ReadFault) e = cc
+served_two (Err fault.WriteFault) e = cc
+served_two (Err fault.NoMemory) e = cc
 
-right : (files : Option Files) (asked : Option RunArguments) (ending : Ending) → MayEnd files asked ending → asked ≡ None → status_of ending ≡ 2
-right files None ending h e = rw h refl
-right files (Some asked) ending h e = absurd (cc)
+served_three : (o : Result End TalkFaultKind) → status_of (ending_by o) ≡ 3 → ⊥
+served_three (Ok end.Closed) e = cc
+served_three (Ok end.CloseAsked) e = cc
+served_three (Ok end.Cut) e = cc
+served_three (Ok end.BadHead) e = cc
+served_three (Ok end.HeadTooLong) e = cc
+served_three (Ok end.NoLength) e = cc
+served_three (Ok end.BodyTooLong) e = cc
+served_three (Ok end.Spent) e = cc
+served_three (Ok end.NotBuilt) e = cc
+served_three (Err fault.ReadFault) e = cc
+served_three (Err fault.WriteFault) e = cc
+served_three (Err fault.NoMemory) e = cc
 
--- the status is 2 exactly at wrong words
-pub two_at_wrong_words : (files : Option Files) (asked : Option RunArguments) (ending : Ending) (status : ℕ) → MayEnd files asked ending → status ≡ status_of ending → (status ≡ 2) ↔ (asked ≡ None)
-two_at_wrong_words files asked ending status h e = rw e (wrong files asked ending h, right files asked ending h)
+refused_two : (files : Option Files) (name : List ℕ) (failed : Type 0) (ending : Ending) → MayRefuse files name failed ending → status_of ending ≡ 2 → ⊥
+refused_two files name failed Done may e = may
+refused_two files name failed DeviceFault may e = cc
+refused_two files name failed WrongWords may e = may
+refused_two files name failed (BadFile bad) may e = cc
+refused_two files name failed (Early at) may e = may
+refused_two files name failed OutOfMemory may e = cc
 
-to_table : (files : Files) (asked : Option RunArguments) (ending : Ending) → MayEnd (Some files) asked ending → status_of ending ≡ 3 → AsksForNoTable files asked
-to_table files None ending h e = absurd (let k : status_of ending ≡ 2 = rw h refl in omega arith)
-to_table files (Some asked) Done h e = absurd (cc)
-to_table files (Some asked) DeviceFault h e = absurd (cc)
-to_table files (Some asked) WrongWords h e = absurd h
-to_table files (Some asked) (BadFile bad) h e = h.1
-to_table files (Some asked) (Early at) h e = absurd (cc)
-to_table files (Some asked) OutOfMemory h e = absurd (cc)
+module _ (opening : Histories Event) (gave : Option ℕ → List Given → Type 0) (before after : Devices) where
+  wrong : (asked : Option RunArguments) (ending : Ending) → Runs opening gave before after asked ending → status_of ending ≡ 2 → asked ≡ None
+  wrong None ending runs e = refl
+  wrong (Some asked) ending (inl r) e = absurd (refused_two before.files asked.users (Rose before.shelf_faults after.shelf_faults) ending r.may e)
+  wrong (Some asked) ending (inr s) e = absurd (served_two (s.serves).outcome (ap status_of (sym (s.serves).ends) ∙ e))
 
-from_table : (files : Files) (asked : Option RunArguments) (ending : Ending) → MayEnd (Some files) asked ending → status_of ending ≢ 1 → status_of ending ≢ 5 → AsksForNoTable files asked → status_of ending ≡ 3
-from_table files None ending h a b t = absurd t
-from_table files (Some asked) Done h a b t = absurd (cc)
-from_table files (Some asked) DeviceFault h a b t = absurd (a refl)
-from_table files (Some asked) WrongWords h a b t = absurd h
-from_table files (Some asked) (BadFile bad) h a b t = refl
-from_table files (Some asked) (Early at) h a b t = absurd (cc)
-from_table files (Some asked) OutOfMemory h a b t = absurd (b refl)
+  right : (asked : Option RunArguments) (ending : Ending) → Runs opening gave before after asked ending → asked ≡ None → status_of ending ≡ 2
+  right None ending runs e = ap status_of runs.0
+  right (Some asked) ending runs e = absurd (cc)
+
+  -- the status is 2 exactly at wrong words
+  pub two_at_wrong_words : (asked : Option RunArguments) (ending : Ending) (status : ℕ) → Runs opening gave before after asked ending → status ≡ status_of ending → (status ≡ 2) ↔ (asked ≡ None)
+  two_at_wrong_words asked ending status runs e = rw e (wrong asked ending runs, right asked ending runs)
+
+-- why a run ended so whose words are right
+abbrev EndsBy : Option Files → List ℕ → Type 0 → Ending → Type 0
+EndsBy files name failed ending = MayRefuse files name failed ending ⊎ ((t : Table) × IsTableIn files name t × (o : Result End TalkFaultKind) × (ending ≡ ending_by o))
+
+to_table : (files : Files) (name : List ℕ) (failed : Type 0) (ending : Ending) → EndsBy (Some files) name failed ending → status_of ending ≡ 3 → table_in files name ≡ None
+to_table files name failed Done (inl may) e = absurd may
+to_table files name failed DeviceFault (inl may) e = absurd (cc)
+to_table files name failed WrongWords (inl may) e = absurd may
+to_table files name failed (BadFile bad) (inl may) e = may.1
+to_table files name failed (Early at) (inl may) e = absurd may
+to_table files name failed OutOfMemory (inl may) e = absurd (cc)
+to_table files name failed ending (inr s) e = absurd (served_three s.2 (ap status_of (sym s.3) ∙ e))
+
+from_table : (files : Files) (name : List ℕ) (failed : Type 0) (ending : Ending) → EndsBy (Some files) name failed ending → status_of ending ≢ 1 → status_of ending ≢ 5 → table_in files name ≡ None → status_of ending ≡ 3
+from_table files name failed Done (inl may) a b none = absurd may
+from_table files name failed DeviceFault (inl may) a b none = absurd (a refl)
+from_table files name failed WrongWords (inl may) a b none = absurd may
+from_table files name failed (BadFile bad) (inl may) a b none = refl
+from_table files name failed (Early at) (inl may) a b none = absurd may
+from_table files name failed OutOfMemory (inl may) a b none = absurd (b refl)
+from_table files name failed ending (inr s) a b none = let some : table_in files name ≡ Some s.0 = s.1 in absurd (cc)
 
 -- the status is 3 exactly where there is no table, where it may be
-pub three_at_no_table : (files : Option Files) (asked : Option RunArguments) (ending : Ending) (status : ℕ) → MayEnd files asked ending → status ≡ status_of ending → IsThreeAtNoTable files asked status
-three_at_no_table None asked ending status h e = tt
-three_at_no_table (Some files) asked ending status h e = rw e (λ a b. (to_table files asked ending h, from_table files asked ending h a b))
+by_files : (files : Option Files) (asked : RunArguments) (failed : Type 0) (ending : Ending) → EndsBy files asked.users failed ending → IsThreeAtNoTable files (Some asked) (status_of ending)
+by_files None asked failed ending ends = tt
+by_files (Some files) asked failed ending ends = λ a b. (to_table files asked.users failed ending ends, from_table files asked.users failed ending ends a b)
 
-pub ends_refused : (files : Option Files) (asked : RunArguments) (ending : Ending) → MayRefuse files asked.users ending → MayEnd files (Some asked) ending
-ends_refused files asked Done h = absurd h
-ends_refused files asked DeviceFault h = tt
-ends_refused files asked WrongWords h = absurd h
-ends_refused files asked (BadFile bad) h = h
-ends_refused files asked (Early at) h = absurd h
-ends_refused files asked OutOfMemory h = tt
+at_wrong : (files : Option Files) (ending : Ending) → ending ≡ WrongWords → IsThreeAtNoTable files None (status_of ending)
+at_wrong None ending is = tt
+at_wrong (Some files) ending is = λ a b. (λ e. absurd (let two : status_of ending ≡ 2 = ap status_of is in omega arith), λ none. absurd none)
 
-pub ends_served : (files : Option Files) (asked : RunArguments) (ending : Ending) → HoldsUsers files asked.users → MayServe ending → MayEnd files (Some asked) ending
-ends_served files asked Done users h = users
-ends_served files asked DeviceFault users h = tt
-ends_served files asked WrongWords users h = absurd h
-ends_served files asked (BadFile bad) users h = absurd h
-ends_served files asked (Early at) users h = (users, h)
-ends_served files asked OutOfMemory users h = tt
-
-pub early_end : (at : End) → at ≢ end.Closed → at ≢ end.CloseAsked → at ≢ end.Spent → IsEarly at
-early_end end.Closed a b c = absurd (a refl)
-early_end end.CloseAsked a b c = absurd (b refl)
-early_end end.Cut a b c = tt
-early_end end.BadHead a b c = tt
-early_end end.HeadTooLong a b c = tt
-early_end end.NoLength a b c = tt
-early_end end.BodyTooLong a b c = tt
-early_end end.Spent a b c = absurd (c refl)
-early_end end.NotBuilt a b c = tt
-
-pub early_ending : (at : End) → at ≢ end.Closed → at ≢ end.CloseAsked → at ≢ end.Spent → Early at ≡ ending_of at
-early_ending end.Closed a b c = absurd (a refl)
-early_ending end.CloseAsked a b c = absurd (b refl)
-early_ending end.Cut a b c = refl
-early_ending end.BadHead a b c = refl
-early_ending end.HeadTooLong a b c = refl
-early_ending end.NoLength a b c = refl
-early_ending end.BodyTooLong a b c = refl
-early_ending end.Spent a b c = absurd (c refl)
-early_ending end.NotBuilt a b c = refl
+pub three_at_no_table : (opening : Histories Event) (gave : Option ℕ → List Given → Type 0) (before after : Devices) (asked : Option RunArguments) (ending : Ending) (status : ℕ) → Runs opening gave before after asked ending → status ≡ status_of ending
+    → IsThreeAtNoTable before.files asked status
+three_at_no_table opening gave before after None ending status runs e = rw e (at_wrong before.files ending runs.0)
+three_at_no_table opening gave before after (Some asked) ending status (inl r) e = rw e (by_files before.files asked (Rose before.shelf_faults after.shelf_faults) ending (inl r.may))
+three_at_no_table opening gave before after (Some asked) ending status (inr s) e =
+    rw e (by_files before.files asked (Rose before.shelf_faults after.shelf_faults) ending (inr (s.table, s.table_is, (s.serves).outcome, (s.serves).ends)))

@@ -1,5 +1,5 @@
--- What the arguments of `run` ask for.
-use Rattle.std.specs.Prelude.{ℕ, not, ◌&&◌, if◌then◌else◌, List, [], ◌∷◌, codes, Option, None, Some}
+-- What a command line asks for, and the arguments of `run`.
+use Rattle.std.specs.Prelude.{ℕ, not, ◌&&◌, if◌then◌else◌, List, [], ◌∷◌, codes, Option, None, Some, option_and_then}
 use Rattle.std.specs.Str.{bytes_eq}
 use Rattle.std.specs.Str.Parse.{starts_with_minus}
 use Rattle.ck_base.specs.Numbers.{number_of}
@@ -23,3 +23,12 @@ asked_of (users ∷ flag ∷ number ∷ []) =
     if not (starts_with_minus users) && bytes_eq flag (codes "--moment")
     then at_moment users (number_of number) else None
 asked_of _ = None
+
+-- the arguments behind `run`, where that is the first word of a command line
+abbrev pub args_of : List (List ℕ) → Option (List (List ℕ))
+args_of [] = None
+args_of (command ∷ args) = if bytes_eq command (codes "run") then Some args else None
+
+-- what a command line asks for
+abbrev pub asked_by : List (List ℕ) → Option RunArguments
+asked_by words = option_and_then asked_of (args_of words)

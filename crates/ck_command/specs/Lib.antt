@@ -1,4 +1,4 @@
--- what the arguments ask for
+-- what a command line asks for, and its arguments
 pub mod Arguments
 -- the table of users in the file that they name
 pub mod UsersFile

@@ -2,9 +2,9 @@
 use Rattle.std.specs.Prelude.{◌≡◌, ◌≢◌, ◌↔◌, ℕ, List, Option, None, Some, ⊤}
 use Rattle.ck_devices.specs.Files.{Files}
 use Rattle.ck_command.specs.declared.endings.Ending.{Ending}
-use Rattle.ck_command.specs.Arguments.{RunArguments, asked_of}
+use Rattle.ck_command.specs.Arguments.{RunArguments}
 use Rattle.ck_command.specs.UsersFile.{AsksForNoTable}
-use Rattle.ck_command.specs.Endings.{status_of, MayEnd}
+use Rattle.ck_command.specs.Endings.{status_of}
 use Rattle.ck_command.specs.Lines.{line_of, Tells}
 
 -- where the shelf tells its files, the status is 3 exactly at right words that name no table of users,
@@ -14,11 +14,14 @@ IsThreeAtNoTable None asked status = ⊤
 IsThreeAtNoTable (Some files) asked status =
     status ≢ 1 → status ≢ 5 → (status ≡ 3) ↔ AsksForNoTable files asked
 
--- the run ended as it may end for these files and words, its status and its line tell so, and it took and wrote what
--- such a run does
-pub record Ran (files : Option Files) (args : List (List ℕ)) (status : ℕ) (held now : Option (List ℕ)) (faults later : ℕ) (conversed : Ending → Type 0) : Type 0 where
+-- what standard error holds, where it tells it, and how often it has failed
+pub record Errors : Type 0 where
+  pub held : Option (List ℕ)
+  pub faults : ℕ
+
+-- the run ended so, and its status and its line tell it
+pub record Ran (before after : Errors) (status : ℕ) (runs : Ending → Type 0) : Type 0 where
   pub ending : Ending
-  pub may_end : MayEnd files (asked_of args) ending
-  pub served : conversed ending
+  pub does : runs ending
   pub status_is : status ≡ status_of ending
-  pub told : Tells held now faults later (line_of ending)
+  pub told : Tells before.held after.held before.faults after.faults (line_of ending)

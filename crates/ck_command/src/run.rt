@@ -1,11 +1,10 @@
 //! One run of the server over the devices that it is handed.
-ghost use Rattle.std.specs.Prelude.{◌≡◌, ◌≤◌, ◌⊎◌, ◌↔◌, None, OnOk, IfOk, IfErr};
+ghost use Rattle.std.specs.Prelude.{◌≡◌, ◌≤◌, ◌↔◌, [], None, IfOk, IfErr};
 ghost use Rattle.ck_devices.specs.Causes.{Rose};
 ghost use Rattle.talk_model.specs.Given.{Draws, GaveFor};
 ghost use Rattle.ck_command.specs.Arguments.{asked_of};
-ghost use Rattle.ck_command.specs.UsersFile.{HoldsUsers};
-ghost use Rattle.ck_command.specs.Endings.{ending_of, MayRefuse, MayServe, MayEnd};
-ghost use Rattle.ck_command.specs.Serving.{RunServes, IsTableIn, Converses};
+ghost use Rattle.ck_command.specs.Endings.{ending_of, MayRefuse};
+ghost use Rattle.ck_command.specs.Serving.{GivenAre, ServesFrom, IsTableIn, Runs};
 ghost use Rattle.ck_command.specs.Runs.{IsThreeAtNoTable, Ran};
 
 use crate::arguments::read_arguments;
@@ -23,10 +22,8 @@ fn load_users<'a, F: Shelf>(
     shelf: &mut F,
     name: &'a str,
 ) -> Result<Users, Ending<'a>>
-    ensures users { OnOk result (HoldsUsers (F.files shelf.old) name.now) }
     ensures table { IfOk result (λ users. IsTableIn (F.files shelf.old) name.now users) }
-    ensures refused { IfErr result (MayRefuse (F.files shelf.old) name.now) }
-    ensures cause { IfErr result (λ ending. ending ≡ Ending.DeviceFault → Rose (F.fault_count shelf.old) (F.fault_count shelf.new)) }
+    ensures refused { IfErr result (MayRefuse (F.files shelf.old) name.now (Rose (F.fault_count shelf.old) (F.fault_count shelf.new))) }
 {
     let mut bytes = Vec::new(alloc);
     match shelf.read(name, &mut bytes) {
@@ -42,17 +39,17 @@ fn load_users<'a, F: Shelf>(
 }
 
 // An end of a conversation that did not break off.
-#[tactic(auto, using(crate::proofs::EndingLemmas::early_end, crate::proofs::EndingLemmas::early_ending))]
 fn ending_at<'a>(end: End) -> Ending<'a>
-    ensures exact { result ≡ ending_of end }
-    ensures served { MayServe result }
-    ensures cause { result ≡ Ending.DeviceFault → ⊥ }
+    ensures { result ≡ ending_of end }
 {
     match end {
-        End::Closed => Ending::Done,
-        End::CloseAsked => Ending::Done,
-        End::Spent => Ending::Done,
-        end => Ending::Early(end),
+        End::Closed | End::CloseAsked | End::Spent => Ending::Done,
+        End::Cut
+        | End::BadHead
+        | End::HeadTooLong
+        | End::NoLength
+        | End::BodyTooLong
+        | End::NotBuilt => Ending::Early(end),
     }
 }
 
@@ -65,10 +62,9 @@ fn answer_all<'a, S: Source, W: Sink, C: Clock, R: Words>(
     clock: &mut C,
     words: &mut R,
 ) -> Ending<'a>
-    ensures served { MayServe result }
-    ensures serves { RunServes users.now (GaveFor C.gives (Draws R.gives R.fault_count) clock.old clock.new words.old words.new)
-        (S.left source.old) (S.left source.new) (W.held sink.old) (W.held sink.new) result }
-    ensures cause { result ≡ Ending.DeviceFault → Rose (S.fault_count source.old) (S.fault_count source.new) ⊎ Rose (W.fault_count sink.old) (W.fault_count sink.new) }
+    ensures { ServesFrom (λ lock. []) users.now (GaveFor C.gives (Draws R.gives R.fault_count) clock.old clock.new words.old words.new)
+        (record { left = S.left source.old; source_faults = S.fault_count source.old; held = W.held sink.old; sink_faults = W.fault_count sink.old })
+        (record { left = S.left source.new; source_faults = S.fault_count source.new; held = W.held sink.new; sink_faults = W.fault_count sink.new }) result }
 {
     let mut board = Solo::new(alloc);
     match converse(alloc, &mut board, users, source, sink, clock, words) {
@@ -91,11 +87,18 @@ fn run<'a, F: Shelf, S: Source, W: Sink, C: Clock, R: Words>(
     clock: &mut C,
     words: &mut R,
 ) -> Ending<'a>
-    ensures may_end { MayEnd (F.files shelf.old) (asked_of args.now) result }
-    ensures converses { Converses C.gives (Draws R.gives R.fault_count) clock.old clock.new words.old words.new (S.left source.old) (S.left source.new) (W.held sink.old) (W.held sink.new)
-        (F.files shelf.old) (asked_of args.now) result }
-    ensures cause { result ≡ Ending.DeviceFault → Rose (F.fault_count shelf.old) (F.fault_count shelf.new)
-        ⊎ (Rose (S.fault_count source.old) (S.fault_count source.new) ⊎ Rose (W.fault_count sink.old) (W.fault_count sink.new)) }
+    ensures { Runs (λ lock. []) (GivenAre C.gives (Draws R.gives R.fault_count) clock.old clock.new words.old words.new)
+        (record {
+          files = F.files shelf.old;
+          shelf_faults = F.fault_count shelf.old;
+          streams = record { left = S.left source.old; source_faults = S.fault_count source.old; held = W.held sink.old; sink_faults = W.fault_count sink.old };
+        })
+        (record {
+          files = F.files shelf.new;
+          shelf_faults = F.fault_count shelf.new;
+          streams = record { left = S.left source.new; source_faults = S.fault_count source.new; held = W.held sink.new; sink_faults = W.fault_count sink.new };
+        })
+        (asked_of args.now) result }
 {
     let Some(asked) = read_arguments(args) else {
         return Ending::WrongWords;
@@ -130,12 +133,19 @@ pub fn run_command<F: Shelf, S: Source, W: Sink, E: Sink, C: Clock, R: Words>(
     ensures status { result ≤ 5 }
     ensures words { (result ≡ 2) ↔ (asked_of args.now ≡ None) }
     ensures table { IsThreeAtNoTable (F.files shelf.old) (asked_of args.now) result }
-    ensures ran { Ran (F.files shelf.old) args.now result (E.held errors.old) (E.held errors.new)
-        (E.fault_count errors.old) (E.fault_count errors.new)
-        (Converses C.gives (Draws R.gives R.fault_count) clock.old clock.new words.old words.new (S.left source.old) (S.left source.new) (W.held sink.old) (W.held sink.new)
-        (F.files shelf.old) (asked_of args.now)) }
-    ensures cause { result ≡ 1 → Rose (F.fault_count shelf.old) (F.fault_count shelf.new)
-        ⊎ (Rose (S.fault_count source.old) (S.fault_count source.new) ⊎ Rose (W.fault_count sink.old) (W.fault_count sink.new)) }
+    ensures ran { Ran (record { held = E.held errors.old; faults = E.fault_count errors.old }) (record { held = E.held errors.new; faults = E.fault_count errors.new }) result
+        (Runs (λ lock. []) (GivenAre C.gives (Draws R.gives R.fault_count) clock.old clock.new words.old words.new)
+        (record {
+          files = F.files shelf.old;
+          shelf_faults = F.fault_count shelf.old;
+          streams = record { left = S.left source.old; source_faults = S.fault_count source.old; held = W.held sink.old; sink_faults = W.fault_count sink.old };
+        })
+        (record {
+          files = F.files shelf.new;
+          shelf_faults = F.fault_count shelf.new;
+          streams = record { left = S.left source.new; source_faults = S.fault_count source.new; held = W.held sink.new; sink_faults = W.fault_count sink.new };
+        })
+        (asked_of args.now)) }
 {
     let ending = run(alloc, args, shelf, source, sink, clock, words);
     ending.report(errors);

@@ -16,7 +16,8 @@ use Rattle.share_records.specs.declared.participant.Participant.{Participant}
 use Rattle.record_model.specs.declared.records.Record.{Record}
 use Rattle.ck_records.specs.Objects.{present}
 use Rattle.ck_records.specs.Spellings.{permission_name}
-use Rattle.ck_records.specs.Writing.{named_data, fields_members, participant_data, participants_data, share_in, record_members, record_data}
+use Rattle.record_model.specs.RecordForms.{share_in}
+use Rattle.ck_records.specs.Writing.{named_data, fields_members, participant_data, participants_data, record_members, record_data}
 use Rattle.record_model.specs.RecordForms.{IsField, AreFields, IsStored}
 use Rattle.ck_records.specs.Flat.{RecordsAreFlat}
 use Rattle.ck_records.proofs.ObjectLemmas.{Listed}

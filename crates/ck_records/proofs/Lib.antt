@@ -19,5 +19,5 @@ pub mod DraftFlatLemmas
 pub mod LookupLemmas
 -- reading what was written
 pub mod ReadsBackLemmas
--- no JSON of a record has a float
+-- no JSON of a record or of a draft has a float
 pub mod WholeLemmas

@@ -46,20 +46,20 @@ name_told bytes name =
 abbrev pub there : Option Data → Option Data
 there o = option_and_then unless_null o
 
-name_reads : (key : RecordKey) (o : Option (List ℕ)) → IfSome o IsName → name_at key (there (option_map string o)) ≡ Ok o
+pub name_reads : (key : RecordKey) (o : Option (List ℕ)) → IfSome o IsName → name_at key (there (option_map string o)) ≡ Ok o
 name_reads key None is = refl
 name_reads key (Some name) is = rw (name_told name is) refl
 
-tag_reads : (o : Option (List ℕ)) → tag_at (there (option_map string o)) ≡ Ok o
+pub tag_reads : (o : Option (List ℕ)) → tag_at (there (option_map string o)) ≡ Ok o
 tag_reads None = refl
 tag_reads (Some tag) = refl
 
-parent_reads : (p : ParentWish) → IsParentWish p → parent_at (parent_data p) ≡ Ok p
+pub parent_reads : (p : ParentWish) → IsParentWish p → parent_at (parent_data p) ≡ Ok p
 parent_reads Absent is = refl
 parent_reads Null is = refl
 parent_reads (To name) is = rw (name_told name is) refl
 
-root_reads : (name : List ℕ) (tag : Option (List ℕ)) → IsName name → root_at (Some (root_data (record { name = name; tag = tag }))) ≡ Ok (Some (record { name = name; tag = tag }))
+pub root_reads : (name : List ℕ) (tag : Option (List ℕ)) → IsName name → root_at (Some (root_data (record { name = name; tag = tag }))) ≡ Ok (Some (record { name = name; tag = tag }))
 root_reads name None is = rw (name_told name is) refl
 root_reads name (Some tag) is = rw (name_told name is) refl
 
@@ -67,7 +67,7 @@ roots_read : (o : Option ForRoot) → IfSome o IsForRoot → root_at (there (opt
 roots_read None is = refl
 roots_read (Some root) is = root_reads root.name root.tag is.0
 
-public_reads : (o : Option Permission) → public_at (there (option_map public_data o)) ≡ Ok o
+pub public_reads : (o : Option Permission) → public_at (there (option_map public_data o)) ≡ Ok o
 public_reads None = refl
 public_reads (Some Permission.Nothing) = refl
 public_reads (Some Permission.ReadOnly) = refl
@@ -122,7 +122,7 @@ module _ (here : ZoneKey) (caller : List ℕ) where
 
 -- ---- the draft
 
-draft_from-all : (a b c : Result (Option (List ℕ)) RecordFault) (p : Result ParentWish RecordFault) (f : Result (Option ForRoot) RecordFault) (q : Result (Option Permission) RecordFault)
+pub draft_from-all : (a b c : Result (Option (List ℕ)) RecordFault) (p : Result ParentWish RecordFault) (f : Result (Option ForRoot) RecordFault) (q : Result (Option Permission) RecordFault)
     (l : Result (Option (List Wanted)) RecordFault) (w : Result (List (List ℕ × Option Value)) RecordFault) (d : Draft)
     → a ≡ Ok d.name → b ≡ Ok d.rtype → c ≡ Ok d.tag → p ≡ Ok d.parent → f ≡ Ok d.for_root → q ≡ Ok d.public → l ≡ Ok d.participants → w ≡ Ok d.fields
     → draft_from a b c p f q l w ≡ Ok d

@@ -11,9 +11,8 @@ use Rattle.share_records.specs.declared.participant.PartKind.{PartKind}
 use Rattle.share_records.specs.declared.participant.Participant.{Participant}
 use Rattle.share_records.specs.declared.share.Share.{Share as ShareOf}
 use Rattle.record_model.specs.declared.records.Stamp.{Stamp}
-use Rattle.record_model.specs.declared.records.Body.{Body}
-use Rattle.record_model.specs.declared.records.Body.TheVariants.{Plain, Share}
 use Rattle.record_model.specs.declared.records.Record.{Record}
+use Rattle.record_model.specs.RecordForms.{share_in}
 use Rattle.ck_records.specs.Objects.{object_of}
 use Rattle.ck_records.specs.Spellings.{permission_name, kind_name, status_name}
 
@@ -62,10 +61,6 @@ abbrev pub participants_data : List ℕ → ShareOf → Data
 participants_data owner s = array (items_of (owner_data owner ∷ map (participant_data s.public) s.participants))
 
 -- ---- the record
-
-abbrev pub share_in : Body → Option ShareOf
-share_in Plain = None
-share_in (Share s) = Some s
 
 -- the members in ascending order of their names, in three rows; those of a share stand for a share alone
 abbrev pub first_members : Bool → Record → List (List ℕ × Option Data)

@@ -9,23 +9,21 @@ ghost use Rattle.ck_records.specs.DraftFields.{entries, is_named, wish_of, wishe
 ghost use Rattle.record_model.specs.DraftForms.{IsWish, AreWishes};
 
 use crate::{RecordFault, RecordKey, Wish, Wishes};
-use ck_base::{Items, NoMemory, RecordName, UserName, ZoneKey};
-use field_values::{FieldFault, read_field, valid_name};
+use ck_base::{Items, UserName, ZoneKey};
+use field_values::{FieldFault, is_name, read_field, valid_name};
 use serde_json::{Map, Value as Json};
 use std::alloc::Global;
 
 // Each member has the name of a field.
-fn are_named(alloc: Global, members: &Map<String, Json>) -> Result<bool, NoMemory>
-    ensures { IfOk result (λ named.
-        named ≡ list_all is_named (entries (members_view members.now.entries))) }
+fn are_named(members: &Map<String, Json>) -> bool
+    ensures { result ≡ list_all is_named (entries (members_view members.now.entries)) }
 {
     for (name, _) in members.iter() {
-        let name: Option<RecordName> = valid_name(alloc, name.as_bytes())?;
-        if name.is_none() {
-            return Ok(false);
+        if !is_name(name.as_bytes()) {
+            return false;
         }
     }
-    Ok(true)
+    true
 }
 
 fn read_wish(
@@ -79,7 +77,7 @@ fn wishes_in(
     ensures meant { IfOk result AreWishes }
 {
     match json.as_object() {
-        Some(members) if are_named(alloc, members)? => read_wishes(alloc, members, here, caller),
+        Some(members) if are_named(members) => read_wishes(alloc, members, here, caller),
         _ => Err(RecordFault::BadKey(RecordKey::Fields)),
     }
 }

@@ -5,7 +5,8 @@ ghost use Rattle.serde_json.specs.View.{view, members_view};
 ghost use Rattle.share_records.specs.declared.share.Share.{Share as ShareOf};
 ghost use Rattle.ck_records.specs.Objects.{put_some, put_all};
 ghost use Rattle.ck_records.specs.Spellings.{permission_name};
-ghost use Rattle.ck_records.specs.Writing.{stamp_data, named_data, participants_data, share_in, first_members, middle_members, last_members, record_data};
+ghost use Rattle.record_model.specs.RecordForms.{share_in};
+ghost use Rattle.ck_records.specs.Writing.{stamp_data, named_data, participants_data, first_members, middle_members, last_members, record_data};
 
 use crate::members::put_text;
 use crate::spellings::permission_name;

@@ -1,56 +1,73 @@
 // Reading records as replies have them.
-ghost use Rattle.std.specs.Prelude.{◌≡◌, ◌-◌, true, IfOk, IfErr, map};
+ghost use Rattle.std.specs.Prelude.{◌≡◌, ◌-◌, Bool, true, Ok, IfOk, IfErr, map};
 ghost use Rattle.std.specs.List.{list_all};
 ghost use Rattle.serde_json.specs.View.{view};
 ghost use Rattle.ck_base.specs.Order.{are_ascending};
 ghost use Rattle.ck_base.specs.Told.{IsToldUnless};
 ghost use Rattle.record_model.specs.RecordForms.{keeps, IsStored};
+ghost use Rattle.record_model.specs.declared.records.Record.{Record as RecordOf};
 ghost use Rattle.ck_records.specs.Replied.{IsReplyOf};
-ghost use Rattle.ck_records.specs.Shown.{plain_shown, record_shown, are_kept, body_in_form, is_in_form, IsStoredWith};
+ghost use Rattle.record_model.specs.DraftForms.{IsMeantDraft};
+ghost use Rattle.ck_records.specs.Reading.{draft_of};
+ghost use Rattle.ck_records.specs.Shown.{read_well, record_shown, are_kept, body_in_form, is_in_form};
 
 use crate::record_write::record_json;
-use crate::shown::{read_links, read_names, read_stamps, read_tag, read_values};
+use crate::shown::{given_parent, read_heads, read_link, read_stamps, with_values};
 use crate::shown_share::read_body;
-use crate::{Body, Record, ReplyRecordFault};
+use crate::{Body, Draft, Record, RecordFault, ReplyRecordFault, read_record};
 use ck_base::ZoneKey;
 use field_values::{member, same_json};
+use record_model::{are_counted, fits_two_bytes};
 use serde_json::Value as Json;
 use share_records::{PartKind, Participant, Permission};
 use std::alloc::Global;
 
-// The record that the members show, without what makes it a share.
-fn read_plain(alloc: Global, json: &Json, here: &ZoneKey) -> Result<Record, ReplyRecordFault>
-    ensures shown { IsToldUnless ReplyRecordFault.NoMemory result
-        (plain_shown here.now (view json.now)) }
-    ensures meant { IfOk result IsStoredWith }
+// What the JSON is in a request.
+fn read_draft(alloc: Global, json: &Json, here: &ZoneKey) -> Result<Draft, ReplyRecordFault>
+    ensures draft { IsToldUnless ReplyRecordFault.NoMemory result
+        (read_well (draft_of here.now here.now.owner (view json.now))) }
+    ensures meant { IfOk result IsMeantDraft }
 {
-    let (name, rtype) = read_names(alloc, json)?;
-    let tag = read_tag(member(json, "recordChangeTag"))?;
-    let (parent, share) = read_links(alloc, json)?;
-    let fields = read_values(alloc, member(json, "fields"), here)?;
+    match read_record(alloc, json, here, &here.owner) {
+        Ok(draft) => Ok(draft),
+        Err(RecordFault::NoMemory) => Err(ReplyRecordFault::NoMemory),
+        Err(_) => Err(ReplyRecordFault::NotARecord),
+    }
+}
+
+// The record of a draft and of the members that replies alone have.
+fn read_members(alloc: Global, json: &Json, draft: &Draft) -> Result<Record, ReplyRecordFault>
+    ensures shown { IsToldUnless ReplyRecordFault.NoMemory result
+        (record_shown draft.now (view json.now)) }
+    ensures meant { IsMeantDraft draft.now → IfOk result (λ r. is_in_form r ≡ true → IsStored r) }
+{
+    let (name, rtype, tag) = read_heads(draft)?;
+    let share = read_link(alloc, member(json, "share"))?;
+    let fields = with_values(alloc, draft.fields.as_slice())?;
     let (created, modified) = read_stamps(alloc, json)?;
+    let body = read_body(alloc, &rtype, json, draft)?;
     Ok(Record {
         name,
         rtype,
         tag,
-        parent,
+        parent: given_parent(&draft.parent)?,
         share,
         fields,
         created,
         modified,
-        body: Body::Plain,
+        body,
     })
 }
 
-// The record that the members show.
-fn read_members(alloc: Global, json: &Json, here: &ZoneKey) -> Result<Record, ReplyRecordFault>
-    ensures shown { IsToldUnless ReplyRecordFault.NoMemory result
-        (record_shown here.now (view json.now)) }
+// The record that the JSON is in a reply, if it is one.
+fn read_shown(alloc: Global, json: &Json, here: &ZoneKey) -> Result<Record, ReplyRecordFault>
+    ensures back { (as_text : Bool) (r : RecordOf)
+        → IsReplyOf here.now.owner as_text (view json.now) r
+        → IsToldUnless ReplyRecordFault.NoMemory result (Ok r) }
     ensures meant { IfOk result (λ r. is_in_form r ≡ true → IsStored r) }
 {
-    let mut record = read_plain(alloc, json, here)?;
-    record.body = read_body(alloc, &record.rtype, json)?;
-    Ok(record)
+    let draft = read_draft(alloc, json, here)?;
+    read_members(alloc, json, &draft)
 }
 
 fn keeps(participant: &Participant) -> bool
@@ -84,7 +101,7 @@ fn are_ascending(participants: &[Participant]) -> bool
 fn are_kept(participants: &[Participant]) -> bool
     ensures { result ≡ are_kept participants.now }
 {
-    keeps_all(participants) && are_ascending(participants)
+    keeps_all(participants) && are_ascending(participants) && fits_two_bytes(participants.len())
 }
 
 fn body_in_form(body: &Body) -> bool
@@ -99,7 +116,7 @@ fn body_in_form(body: &Body) -> bool
 fn is_in_form(record: &Record) -> bool
     ensures { result ≡ is_in_form «record».now }
 {
-    record.tag > 0 && body_in_form(&record.body)
+    record.tag > 0 && are_counted(record.fields.as_slice()) && body_in_form(&record.body)
 }
 
 /// The record that JSON is in a reply, as `record_json` writes it, in the zone `here`, whose whole
@@ -116,7 +133,7 @@ pub fn read_reply_record(
     ensures other { IfErr result (λ fault. fault ≡ ReplyRecordFault.NotARecord → (r : Record)
         → IsReplyOf here.now.owner numbers_as_strings (view json.now) r → ⊥) }
 {
-    let record = read_members(alloc, json, here)?;
+    let record = read_shown(alloc, json, here)?;
     if !is_in_form(&record) {
         return Err(ReplyRecordFault::NotARecord);
     }

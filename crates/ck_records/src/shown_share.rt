@@ -1,28 +1,26 @@
-// The members that the JSON of a share has beside those of each record.
-ghost use Rattle.std.specs.Prelude.{◌≡◌, true, IfOk, IfSome, map, option_map};
-ghost use Rattle.std.specs.List.{AllByRecursion};
+// What a share in a reply has beside what drafts have.
+ghost use Rattle.std.specs.Prelude.{◌≡◌, true, IfOk, map, drop, option_map, option_and_then};
 ghost use Rattle.serde_json.specs.View.{view};
-ghost use Rattle.ck_base.specs.Names.{IsName};
+ghost use Rattle.serde_json.specs.Find.{as_array};
 ghost use Rattle.ck_base.specs.Guids.{IsGuid};
 ghost use Rattle.ck_base.specs.Told.{IsToldUnless};
-ghost use Rattle.record_model.specs.RecordForms.{IsShare, IsBodyOf};
-ghost use Rattle.ck_records.specs.Shown.{HasUser, is_accepted, own_permission, participant_of, entry_shown, entries_shown, participants_shown, root_shown, guid_shown, public_shown, share_shown, body_shown, are_kept, body_in_form};
+ghost use Rattle.record_model.specs.DraftForms.{IsMeantDraft};
+ghost use Rattle.record_model.specs.RecordForms.{IsBodyOf};
+ghost use Rattle.ck_records.specs.Shown.{is_accepted, own_permission, participant_of, with_statuses, participants_shown};
+ghost use Rattle.ck_records.specs.Shown.{guid_shown, share_shown, body_shown, body_in_form};
 
-use crate::participants::read_entry;
-use crate::shown::read_name;
-use crate::spellings::permission_named;
-use crate::{Body, RecordFault, ReplyRecordFault};
-use ck_base::{Guid, Items, RecordName};
+use crate::{Body, Draft, ReplyRecordFault};
+use ck_base::{Guid, Items, NoMemory, RecordName};
 use field_values::member;
 use record_model::is_share_type;
 use serde_json::Value as Json;
 use share_records::{PartKind, Participant, Participants, Permission, Share, Wanted};
 use std::alloc::Global;
 
-fn is_accepted(json: Option<&Json>) -> bool
-    ensures { result ≡ is_accepted (option_map (λ v. view v.now) json.entry) }
+fn is_accepted(entry: &Json) -> bool
+    ensures { result ≡ is_accepted (view entry.now) }
 {
-    match json.and_then(Json::as_str) {
+    match member(entry, "acceptanceStatus").and_then(Json::as_str) {
         Some(status) => status == "ACCEPTED",
         None => false,
     }
@@ -37,64 +35,53 @@ fn own_permission(kind: PartKind, shown: Permission) -> Permission
     }
 }
 
-fn participant_of(accepted: bool, wanted: Wanted) -> Participant
-    ensures { result ≡ participant_of accepted wanted }
+fn participant_of(accepted: bool, wanted: &Wanted) -> Result<Participant, NoMemory>
+    ensures { IfOk result (λ p. p ≡ participant_of accepted wanted.now) }
 {
-    Participant {
+    Ok(Participant {
         permission: own_permission(wanted.kind, wanted.permission),
-        user: wanted.user,
+        user: wanted.user.clone()?,
         kind: wanted.kind,
         accepted,
-    }
+    })
 }
 
-fn read_shown(alloc: Global, json: &Json) -> Result<Option<Participant>, ReplyRecordFault>
-    ensures entry { IsToldUnless ReplyRecordFault.NoMemory result (entry_shown (view json.now)) }
-    ensures meant { IfOk result (λ entry. IfSome entry HasUser) }
+fn with_statuses(alloc: Global, list: &[Wanted], entries: &[Json]) -> Result<Participants, NoMemory>
+    ensures { IfOk result (λ ps. ps ≡ with_statuses list.now (map view entries.now)) }
 {
-    let accepted = is_accepted(member(json, "acceptanceStatus"));
-    match read_entry(alloc, json) {
-        Ok(Some(wanted)) => Ok(Some(participant_of(accepted, wanted))),
-        Ok(None) => Ok(None),
-        Err(RecordFault::NoMemory) => Err(ReplyRecordFault::NoMemory),
-        Err(_) => Err(ReplyRecordFault::NotARecord),
-    }
-}
-
-fn read_all_shown(alloc: Global, items: &[Json]) -> Result<Participants, ReplyRecordFault>
-    ensures entries { IsToldUnless ReplyRecordFault.NoMemory result
-        (entries_shown (map view items.now)) }
-    ensures meant { IfOk result (AllByRecursion HasUser) }
-{
-    let mut list = Vec::new(alloc);
-    for item in items {
-        let Some(participant) = read_shown(alloc, item)? else {
-            continue;
+    let mut participants = Vec::new(alloc);
+    let mut rest = entries;
+    for wanted in list {
+        let [entry, after @ ..] = rest else {
+            return Ok(Items::from_vec(participants));
         };
-        list.push(participant)?;
+        participants.push(participant_of(is_accepted(entry), wanted)?)?;
+        rest = after;
     }
-    Ok(Items::from_vec(list))
+    Ok(Items::from_vec(participants))
+}
+
+// The first entry is the owner's.
+fn after_first(entries: &[Json]) -> &[Json]
+    ensures { map view result.now ≡ drop 1 (map view entries.now) }
+{
+    match entries {
+        [_, after @ ..] => after,
+        [] => entries,
+    }
 }
 
 #[tactic(auto, using(field_values::proofs::ListLemmas::elements_items))]
-fn read_participants(alloc: Global, json: Option<&Json>) -> Result<Participants, ReplyRecordFault>
+fn read_participants(
+    alloc: Global,
+    list: &[Wanted],
+    json: Option<&Json>,
+) -> Result<Participants, ReplyRecordFault>
     ensures list { IsToldUnless ReplyRecordFault.NoMemory result
-        (participants_shown (option_map (λ v. view v.now) json.entry)) }
-    ensures meant { IfOk result (AllByRecursion HasUser) }
+        (participants_shown list.now (option_and_then as_array (option_map (λ v. view v.now) json.entry))) }
 {
     match json.and_then(Json::as_array) {
-        Some(items) => read_all_shown(alloc, items),
-        None => Err(ReplyRecordFault::NotARecord),
-    }
-}
-
-fn read_root(alloc: Global, json: Option<&Json>) -> Result<RecordName, ReplyRecordFault>
-    ensures root { IsToldUnless ReplyRecordFault.NoMemory result
-        (root_shown (option_map (λ v. view v.now) json.entry)) }
-    ensures meant { IfOk result IsName }
-{
-    match json {
-        Some(json) => read_name(alloc, member(json, "recordName")),
+        Some(entries) => Ok(with_statuses(alloc, list, after_first(entries))?),
         None => Err(ReplyRecordFault::NotARecord),
     }
 }
@@ -112,26 +99,24 @@ fn read_guid(json: Option<&Json>) -> Result<Guid, ReplyRecordFault>
     }
 }
 
-fn read_public(json: Option<&Json>) -> Result<Permission, ReplyRecordFault>
-    ensures { result ≡ public_shown (option_map (λ v. view v.now) json.entry) }
+fn read_share(alloc: Global, json: &Json, draft: &Draft) -> Result<Share, ReplyRecordFault>
+    ensures share { IsToldUnless ReplyRecordFault.NoMemory result
+        (share_shown draft.now (view json.now)) }
+    ensures guid { IfOk result (λ s. IsGuid s.guid) }
 {
-    match json.and_then(Json::as_str).and_then(permission_named) {
-        Some(permission) => Ok(permission),
-        None => Err(ReplyRecordFault::NotARecord),
-    }
-}
-
-#[tactic(auto, using(crate::proofs::ShownLemmas::kept_participants))]
-fn read_share(alloc: Global, json: &Json) -> Result<Share, ReplyRecordFault>
-    ensures share { IsToldUnless ReplyRecordFault.NoMemory result (share_shown (view json.now)) }
-    ensures meant { IfOk result (λ s. are_kept s.participants ≡ true → IsShare s) }
-{
-    let root = read_root(alloc, member(json, "forRecord"))?;
+    let Some(root) = &draft.for_root else {
+        return Err(ReplyRecordFault::NotARecord);
+    };
     let guid = read_guid(member(json, "shortGUID"))?;
-    let public = read_public(member(json, "publicPermission"))?;
-    let participants = read_participants(alloc, member(json, "participants"))?;
+    let Some(public) = draft.public else {
+        return Err(ReplyRecordFault::NotARecord);
+    };
+    let Some(list) = &draft.participants else {
+        return Err(ReplyRecordFault::NotARecord);
+    };
+    let participants = read_participants(alloc, list.as_slice(), member(json, "participants"))?;
     Ok(Share {
-        root,
+        root: root.name.clone()?,
         guid,
         public,
         participants,
@@ -143,13 +128,15 @@ pub(crate) fn read_body(
     alloc: Global,
     rtype: &RecordName,
     json: &Json,
+    draft: &Draft,
 ) -> Result<Body, ReplyRecordFault>
     ensures body { IsToldUnless ReplyRecordFault.NoMemory result
-        (body_shown rtype.now (view json.now)) }
-    ensures meant { IfOk result (λ body. body_in_form body ≡ true → IsBodyOf rtype.now body) }
+        (body_shown rtype.now draft.now (view json.now)) }
+    ensures meant { IsMeantDraft draft.now → IfOk result (λ body.
+        body_in_form body ≡ true → IsBodyOf rtype.now body) }
 {
     if is_share_type(rtype) {
-        Ok(Body::Share(read_share(alloc, json)?))
+        Ok(Body::Share(read_share(alloc, json, draft)?))
     } else {
         Ok(Body::Plain)
     }

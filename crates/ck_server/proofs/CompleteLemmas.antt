@@ -1,11 +1,13 @@
 -- A conversation that ends well over whole requests answers all of them.
-use Rattle.std.proofs.Common.{◌≡◌, ℕ, List, [], ◌++◌, refl, sym, ap, subst, ◌∙◌, append-nil, None, Some, Option}
+use Rattle.std.proofs.Common.{◌≡◌, ℕ, List, [], ◌++◌, refl, sym, ap, subst, ◌∙◌, append-nil, None, Some, Option, Ok, Err, inl, inr}
 use Rattle.std.specs.List.{concat}
 use Rattle.std.specs.Io.KnownBytes.{Consumes, Appends}
 use Rattle.http_front.specs.declared.request.Request.{Request}
 use Rattle.http_front.specs.Users.{Table}
 use Rattle.talk_model.specs.declared.ends.End.{End}
 use Rattle.talk_model.specs.declared.ends.End.TheVariants.{Closed, CloseAsked, Cut, BadHead, HeadTooLong, NoLength, BodyTooLong, Spent, NotBuilt}
+use Rattle.talk_model.specs.declared.ends.TalkFaultKind.{TalkFaultKind}
+use Rattle.talk_model.specs.declared.ends.TalkFaultKind.TheVariants.{ReadFault, WriteFault, NoMemory}
 use Rattle.talk_model.specs.declared.marks.Mark.{Mark}
 use Rattle.talk_model.specs.Requests.{Meaning}
 use Rattle.talk_model.specs.Given.{Given}
@@ -16,8 +18,8 @@ use Rattle.talk_model.proofs.ConnectionLemmas.{one_reading, close_asked_more, ba
 use Rattle.talk_model.proofs.WholeLemmas.{whole_ones_end}
 use Rattle.talk_model.specs.Marks.{AreMarksOf}
 use Rattle.ck_server.specs.Conversations.{Standing}
-use Rattle.ck_server.specs.Outcomes.{EndsSource, EndsWell}
-use Rattle.ck_server.specs.Completeness.{AnswersAll}
+use Rattle.ck_server.specs.Outcomes.{EndsSource, EndsWell, BreaksOff}
+use Rattle.ck_server.specs.Completeness.{AnswersAll, Failed, Converses}
 
 -- at the ends at which the source has not ended, what it has left doesn't change the reading
 more_left : (t : Table) (end : End) (bytes taken left : List ℕ) (ws : List Meaning) → AreRequests t taken ws end → bytes ≡ taken ++ left → EndsSource end (Some left) → AreRequests t bytes ws end
@@ -46,17 +48,32 @@ all_read t end bytes taken (Some all) (Some left) ws is consumed reads ended =
     let same : all ≡ bytes = cc in
     more_left t end bytes taken left ws reads (sym same ∙ consumed) ended
 
-pub answers_all : (alone : Type 0) (t : Table) (gave : List Given → Type 0) (entry now : Standing) (marks : List Mark) (end : End) → EndsWell alone t gave entry now marks end
+pub answers_all : (t : Table) (gave : List Given → Type 0) (entry now : Standing) (marks : List Mark) (end : End) → EndsWell t gave entry now marks end
     → (bytes : List ℕ) (rs : List Request) → entry.left ≡ Some bytes → AreWhole bytes rs → AnswersAll t entry now rs marks end
-answers_all alone t gave entry now marks end k bytes rs left whole =
+answers_all t gave entry now marks end k bytes rs left whole =
     let c = k.conversed in
+    let h = (now.board).histories in
     let read : AreRequests t bytes c.wanted end = all_read t end bytes (concat c.requests ++ k.rest) entry.left now.left c.wanted left c.consumed k.reads k.source in
     let one = one_reading t bytes c.wanted (answered t rs) end (end_behind t rs) read (whole_ones_end.reading t bytes rs whole) in
     let nothing : last_text end ≡ [] = ap last_text one.1 ∙ whole_ones_end.nothing_last t rs in
-    let sent : c.sent ≡ talk c.wanted marks now.histories =
-    sym (append-nil c.sent) ∙ (sym c.text ∙ (ap (λ (l : List ℕ). talk c.wanted marks now.histories ++ l) nothing ∙ append-nil (talk c.wanted marks now.histories))) in
+    let sent : c.sent ≡ talk c.wanted marks h =
+    sym (append-nil c.sent) ∙ (sym c.text ∙ (ap (λ (l : List ℕ). talk c.wanted marks h ++ l) nothing ∙ append-nil (talk c.wanted marks h))) in
     record {
-      marked = subst (λ (ws : List Meaning). AreMarksOf now.seats 0 entry.histories now.histories marks ws) one.0 c.marked;
-      written = subst (λ (text : List ℕ). Appends entry.held now.held text) (sent ∙ ap (λ (ws : List Meaning). talk ws marks now.histories) one.0) c.appended;
+      marked = subst (λ (ws : List Meaning). AreMarksOf (now.board).seats 0 (entry.board).histories h marks ws) one.0 c.marked;
+      written = subst (λ (text : List ℕ). Appends entry.held now.held text) (sent ∙ ap (λ (ws : List Meaning). talk ws marks h) one.0) c.appended;
       end_is = one.1;
     }
+
+-- a conversation that ended well comes to that, and is complete
+pub ended_well : (t : Table) (gave : List Given → Type 0) (entry now : Standing) (marks : List Mark) (end : End) → EndsWell t gave entry now marks end → Converses t gave entry now marks (Ok end)
+ended_well t gave entry now marks end k = record { comes_to = k; complete = λ bytes requests left whole fine. answers_all t gave entry now marks end k bytes requests left whole }
+
+-- where no device failed only want of memory breaks it off
+on_memory : (t : Table) (gave : List Given → Type 0) (entry now : Standing) (marks : List Mark) (at : TalkFaultKind) → BreaksOff t gave entry now marks at → (Failed entry now → ⊥) → at ≡ NoMemory
+on_memory t gave entry now marks ReadFault b fine = absurd (fine (inl b.cause))
+on_memory t gave entry now marks WriteFault b fine = absurd (fine (inr b.cause))
+on_memory t gave entry now marks NoMemory b fine = refl
+
+-- one that broke off comes to that
+pub broke_off : (t : Table) (gave : List Given → Type 0) (entry now : Standing) (marks : List Mark) (at : TalkFaultKind) → BreaksOff t gave entry now marks at → Converses t gave entry now marks (Err at)
+broke_off t gave entry now marks at k = record { comes_to = k; complete = λ bytes requests left whole fine. on_memory t gave entry now marks at k fine }

@@ -6,34 +6,33 @@ use Rattle.std.specs.List.{AllByRecursion, AllZip, concat}
 use Rattle.std.specs.Io.KnownBytes.{Consumes, Appends}
 use Rattle.zone_model.specs.declared.events.Event.{Event}
 use Rattle.zone_model.specs.Histories.{Histories, Grows}
-use Rattle.zone_model.specs.Legal.{IsLegal}
 use Rattle.board_model.specs.declared.answers.Answer.{Answer}
-use Rattle.board_model.specs.declared.answers.Answered.{Answered}
-use Rattle.board_model.specs.Asks.{sight, answer}
-use Rattle.board_model.specs.Turns.{IsAsked}
+use Rattle.board_model.specs.Turns.{BoardState, AreLegal}
 use Rattle.http_front.specs.Users.{Table}
 use Rattle.http_front.specs.Reading.{most_piece, ReadsOn}
+use Rattle.wire_calls.specs.declared.reply.Reply.{Reply}
 use Rattle.talk_model.specs.declared.marks.At.{At}
 use Rattle.talk_model.specs.declared.marks.Mark.{Mark}
 use Rattle.talk_model.specs.Requests.{Meaning, Wants}
 use Rattle.talk_model.specs.Given.{Given, given_of, givens_of, AreWordsFor}
-use Rattle.talk_model.specs.Calls.{Ask, asks_of, reply_of}
+use Rattle.talk_model.specs.Calls.{Ask, Step, asks, replies, step_for, text_of, text_at, IsReply}
 use Rattle.talk_model.specs.Connections.{most_requests, GoOn, AreOpen, AreClosing}
-use Rattle.talk_model.specs.Marks.{SeatsStay, IsAtOf, IsMarkOf, AreMarksOf, NotBefore, AreInOrder, OwnAreMarked, asks_in}
-use Rattle.talk_model.specs.Talk.{answers_at, reply_at, talk}
-use Rattle.talk_model.specs.Alone.{after_ask, after_asks, answers_alone, after_all, alone_text}
-use Rattle.talk_model.proofs.GrowthLemmas.{grows_on, grows_same, marks-grown, talk-grown}
-use Rattle.talk_model.proofs.MarkLemmas.{all-map, all-snoc, zip-snoc, concat-snoc, asks_in-snoc, givens_of-snoc, order-snoc, marks-snoc, talk-snoc, marks-length, marks-within}
-use Rattle.talk_model.proofs.AloneLemmas.{after_all-snoc, alone_text-snoc, ask_leaves}
-use Rattle.talk_model.proofs.TurnLemmas.{turn_front, turn_stays, turn_legal, base-asked, is_at, not_before, own_more, lone_leaves, lone_adds}
+use Rattle.talk_model.specs.Marks.{step_behind, IsMarkOf, AreMarksOf, AreInOrder, OwnAreMarked, TurnsAreMarked, asks_in}
+use Rattle.talk_model.specs.Talk.{reply_at, talk}
+use Rattle.talk_model.specs.Alone.{after_asks, after_step, reply_alone, after_all, text_alone, alone_text}
+use Rattle.talk_model.proofs.GrowthLemmas.{grows_on, grows_same, mark-grown, behind-grown, marks-grown, talk-grown}
+use Rattle.talk_model.proofs.MarkLemmas.{all-snoc, zip-snoc, concat-snoc, asks_in-snoc, givens_of-snoc, marks-snoc, talk-snoc, marks-length, marks-within}
+use Rattle.talk_model.proofs.AloneLemmas.{after_all-snoc, alone_text-snoc}
 use Rattle.ck_devices.proofs.Streams.{consumes-nil, appends-nil, consumes_on, appends_on}
-use Rattle.ck_server.specs.Conversations.{Standing, IsLone, Conversed, IsSettled, IsOfReply}
+use Rattle.ck_server.specs.Conversations.{Standing, IsLone, Conversed, AreSettled, IsOfReply}
+use Rattle.ck_server.specs.Outcomes.{IsInFront, MayBeAsking, WasAsking}
+use Rattle.ck_server.specs.Answering.{Place, AsksOn, Replies}
 use Rattle.ck_server.proofs.AheadLemmas.{piece_of_little, piece_on}
-use Rattle.ck_server.specs.Answering.{answering, at_of, IsSameBoard, AreAsked, none_asked, one_asked, Replies}
+use Rattle.ck_server.proofs.AskingLemmas.{MayGrow, may_grow, Found, Chained, chain}
 
 -- nothing was said yet
-abbrev pub conversed-start : (alone : Type 0) (t : Table) (entry : Standing) → Conversed alone t entry entry [] [] [] []
-conversed-start alone t entry = record {
+abbrev pub conversed-start : (t : Table) (entry : Standing) → AreLegal entry.board.histories → Conversed t entry entry [] [] [] []
+conversed-start t entry legal = record {
   requests = [];
   wanted = [];
   sent = [];
@@ -42,9 +41,10 @@ conversed-start alone t entry = record {
   closing = inl tt;
   consumed = consumes-nil entry.left;
   ahead = piece_of_little [] (omega arith);
-  grown = grows_same entry.histories;
+  grown = grows_same (entry.board).histories;
   stay = λ lock n e. e;
-  legal = λ all. all;
+  still = refl;
+  legal = legal;
   marked = tt;
   ordered = tt;
   text = refl;
@@ -52,10 +52,14 @@ conversed-start alone t entry = record {
   said = λ lone. refl;
 }
 
+-- the same with other bytes left
+abbrev pub with_source : Standing → Option (List ℕ) → ℕ → Standing
+with_source s left faults = record { left = left; source_faults = faults; held = s.held; sink_faults = s.sink_faults; board = s.board }
+
 -- what was read stands behind the requests
-abbrev pub conversed_took : (alone : Type 0) (t : Table) (entry now : Standing) (left : Option (List ℕ)) (marks : List Mark) (old new last unsent : List ℕ) → (c : Conversed alone t entry now marks old last unsent) → length old < most_piece → ReadsOn now.left left old new
-    → Conversed alone t entry (record { left = left; held = now.held; histories = now.histories; seats = now.seats }) marks new last unsent
-conversed_took alone t entry now left marks old new last unsent c little read = record {
+abbrev pub conversed_took : (t : Table) (entry now : Standing) (left : Option (List ℕ)) (faults : ℕ) (marks : List Mark) (old new last unsent : List ℕ) → (c : Conversed t entry now marks old last unsent) → length old < most_piece → ReadsOn now.left left old new
+    → Conversed t entry (with_source now left faults) marks new last unsent
+conversed_took t entry now left faults marks old new last unsent c little read = record {
   requests = c.requests;
   wanted = c.wanted;
   sent = c.sent;
@@ -63,11 +67,12 @@ conversed_took alone t entry now left marks old new last unsent c little read = 
   few = c.few;
   closing = c.closing;
   consumed =
-      let bytes_are : (concat c.requests ++ old) ++ read.taken ≡ concat c.requests ++ new = append_assoc (concat c.requests) old read.taken ∙ ap (λ b. concat c.requests ++ b) (sym read.grown) in
-      subst (λ b. Consumes entry.left left b) bytes_are (consumes_on entry.left now.left left _ _ c.consumed read.consumed);
+      subst (λ (bytes : List ℕ). Consumes entry.left left bytes) (append_assoc (concat c.requests) old read.taken ∙ ap (λ bytes. concat c.requests ++ bytes) (sym read.grown))
+      (consumes_on entry.left now.left left (concat c.requests ++ old) read.taken c.consumed read.consumed);
   ahead = piece_on now.left left old new little read;
   grown = c.grown;
   stay = c.stay;
+  still = c.still;
   legal = c.legal;
   marked = c.marked;
   ordered = c.ordered;
@@ -76,10 +81,14 @@ conversed_took alone t entry now left marks old new last unsent c little read = 
   said = c.said;
 }
 
+-- what is written last was written, or a part of it
+abbrev pub with_sink : Standing → Option (List ℕ) → ℕ → Standing
+with_sink s held faults = record { left = s.left; source_faults = s.source_faults; held = held; sink_faults = faults; board = s.board }
+
 -- a text was written last, but for unsent
-abbrev pub conversed_sent : (alone : Type 0) (t : Table) (entry now : Standing) (held : Option (List ℕ)) (marks : List Mark) (rest last sent unsent : List ℕ) → (c : Conversed alone t entry now marks rest [] []) → last ≡ sent ++ unsent → Appends now.held held sent
-    → Conversed alone t entry (record { left = now.left; held = held; histories = now.histories; seats = now.seats }) marks rest last unsent
-conversed_sent alone t entry now held marks rest last sent unsent c parts appended = record {
+abbrev pub conversed_sent : (t : Table) (entry now : Standing) (held : Option (List ℕ)) (faults : ℕ) (marks : List Mark) (rest last sent unsent : List ℕ) → (c : Conversed t entry now marks rest [] []) → last ≡ sent ++ unsent → Appends now.held held sent
+    → Conversed t entry (with_sink now held faults) marks rest last unsent
+conversed_sent t entry now held faults marks rest last sent unsent c parts appended = record {
   requests = c.requests;
   wanted = c.wanted;
   sent = c.sent ++ sent;
@@ -90,165 +99,166 @@ conversed_sent alone t entry now held marks rest last sent unsent c parts append
   ahead = c.ahead;
   grown = c.grown;
   stay = c.stay;
+  still = c.still;
   legal = c.legal;
   marked = c.marked;
   ordered = c.ordered;
   text =
-      let before : talk c.wanted marks now.histories ≡ c.sent = sym (append-nil (talk c.wanted marks now.histories)) ∙ (c.text ∙ append-nil c.sent) in
+      let before : talk c.wanted marks (now.board).histories ≡ c.sent = sym (append-nil (talk c.wanted marks (now.board).histories)) ∙ (c.text ∙ append-nil c.sent) in
       (λ i. before i ++ parts i) ∙ sym (append_assoc c.sent sent unsent);
   appended = appends_on entry.held now.held held c.sent sent c.appended appended;
   said = c.said;
 }
+
+-- the board may have been asked, and nothing was written
+abbrev pub conversed_grown : (t : Table) (entry now later : Standing) (marks : List Mark) (rest : List ℕ) → (c : Conversed t entry now marks rest [] []) → MayGrow now.board later.board → later.left ≡ now.left → Appends now.held later.held []
+    → Conversed t entry later marks rest [] []
+conversed_grown t entry now later marks rest c g same_left kept =
+    let same = talk-grown (now.board).seats (later.board).seats (entry.board).histories (now.board).histories (later.board).histories g.grown g.stays 0 marks c.wanted c.marked in
+    record {
+      requests = c.requests;
+      wanted = c.wanted;
+      sent = c.sent;
+      each = c.each;
+      few = c.few;
+      closing = c.closing;
+      consumed = subst (λ (l : Option (List ℕ)). Consumes entry.left l (concat c.requests ++ rest)) (sym same_left) c.consumed;
+      ahead = c.ahead;
+      grown = grows_on (entry.board).histories (now.board).histories (later.board).histories c.grown g.grown;
+      stay = λ lock n e. g.stays lock n (c.stay lock n e);
+      still = g.still ∙ c.still;
+      legal = g.legal c.legal;
+      marked = marks-grown (now.board).seats (later.board).seats (entry.board).histories (now.board).histories (later.board).histories g.grown g.stays 0 marks c.wanted c.marked;
+      ordered = c.ordered;
+      text = ap (λ (l : List ℕ). l ++ []) same ∙ c.text;
+      appended = subst (λ (bytes : List ℕ). Appends entry.held later.held bytes) (append-nil c.sent) (appends_on entry.held now.held later.held c.sent [] c.appended kept);
+      said = λ lone. same ∙ c.said lone;
+    }
 
 -- one request more, which asks to close or not
 closing-on : (ws : List Meaning) (w : Meaning) → AreOpen ws → (b : Bool) → w.close ≡ b → GoOn (ws ++ w ∷ []) ⊎ AreClosing (ws ++ w ∷ [])
 closing-on ws w o true is = inr (record { before = ws; last = w; parts = refl; open_before = o; closes = is })
 closing-on ws w o false is = inl (all-snoc (λ (v : Meaning). v.close ≡ false) ws w o.go_on is)
 
-module _ (alone here : Type 0) (known : alone → here) (t : Table) (entry now : Standing) (old : List Mark) (buffer : List ℕ) (c : Conversed alone t entry now old buffer [] [])
-    (settled : IsSettled alone entry now old c.wanted) (number : ℕ) (count : number ≡ length old) (left2 held2 : Option (List ℕ)) (h2 : Histories Event) (s2 : ℕ → Option ℕ) where
-  abbrev later : Standing
-  later = record { left = left2; held = held2; histories = h2; seats = s2 }
+module _ (t : Table) (entry now : Standing) (old : List Mark) (buffer : List ℕ) (c : Conversed t entry now old buffer [] []) (settled : AreSettled entry now old c.wanted) (number : ℕ) (count : number ≡ length old) where
+  abbrev eh : Histories Event
+  eh = (entry.board).histories
 
-  within : AllByRecursion (λ (at : At). at.len ≤ length (now.histories at.lock)) (asks_in old)
-  within = marks-within now.seats entry.histories now.histories 0 old c.wanted c.marked
+  abbrev nh : Histories Event
+  nh = (now.board).histories
+
+  found : Found entry.board now.board (asks_in old)
+  found = record { grown = c.grown; within = marks-within (now.board).seats eh nh 0 old c.wanted c.marked; ordered = c.ordered; own = settled.own; turns = settled.turns }
 
   abbrev run : Histories Event
-  run = after_all entry.histories c.wanted (givens_of old)
+  run = after_all eh c.wanted (givens_of old)
 
-  histories_are : IsLone alone entry → now.histories ≡ run
+  histories_are : IsLone entry.board → nh ≡ run
   histories_are lone = λ i lock. settled.left_behind lone lock i
 
-  module _ (w : Meaning) (m : Mark) (answers : List Answer) where
-    abbrev the_asks : List Ask
-    the_asks = asks_of w (given_of m)
+  lone_now : IsLone entry.board → IsLone now.board
+  lone_now lone = (c.still ∙ lone.0, λ lock. c.stay lock 0 (lone.1 lock))
 
-    -- what the asks of a request change, and what they leave
-    record HasAsked : Type 0 where
-      grown : Grows now.histories h2
-      stays : SeatsStay now.seats s2
-      legal : (lock : ℕ) → IsLegal lock (now.histories lock) → IsLegal lock (h2 lock)
-      asks : AllZip (IsAtOf s2 entry.histories h2) m.asks.items the_asks
-      answers_are : answers_at h2 m.asks.items the_asks ≡ answers
-      ordered : AreInOrder (asks_in old ++ m.asks.items)
-      own : OwnAreMarked s2 entry.histories h2 (asks_in old ++ m.asks.items)
-      run_answers : IsLone alone entry → answers_alone run the_asks ≡ answers
-      run_leaves : IsLone alone entry → (lock : ℕ) → h2 lock ≡ after_asks run the_asks lock
+  module _ (w : Meaning) (m : Mark) (request : m.request ≡ number) (words : AreWordsFor w.want (given_of m)) where
+    abbrev step : Step
+    step = step_for w.want (given_of m)
 
-    -- nothing was asked
-    nothing_asked : the_asks ≡ [] → m.asks.items ≡ [] → answers ≡ [] → IsSameBoard now later → HasAsked
-    nothing_asked no_asks no_traces no_answers same = record {
-      grown = subst (λ (h : Histories Event). Grows now.histories h) same.0 (grows_same now.histories);
-      stays = subst (λ (s : ℕ → Option ℕ). SeatsStay now.seats s) same.1 (λ lock n e. e);
-      legal = λ lock. subst (λ (h : Histories Event). IsLegal lock (now.histories lock) → IsLegal lock (h lock)) same.0 (λ l. l);
-      asks = subst (λ (ats : List At). AllZip (IsAtOf s2 entry.histories h2) ats the_asks) (sym no_traces) (subst (λ (askeds : List Ask). AllZip (IsAtOf s2 entry.histories h2) [] askeds) (sym no_asks) tt);
-      answers_are = ap (λ ats. answers_at h2 ats the_asks) no_traces ∙ sym no_answers;
-      ordered = subst AreInOrder (sym asks_now) c.ordered;
-      own = subst (OwnAreMarked s2 entry.histories h2) (sym asks_now) (subst (λ (b : (ℕ → Option ℕ) × Histories Event). OwnAreMarked b.0 entry.histories b.1 (asks_in old)) (λ i. (same.1 i, same.0 i)) settled.own);
-      run_answers = λ lone. ap (answers_alone run) no_asks ∙ sym no_answers;
-      run_leaves = λ lone lock. ap (λ (h : Histories Event). h lock) (sym same.0) ∙ (settled.left_behind lone lock ∙ ap (λ askeds. after_asks run askeds lock) (sym no_asks));
-    }
-      where
-        asks_now : asks_in old ++ m.asks.items ≡ asks_in old
-        asks_now = ap (λ l. asks_in old ++ l) no_traces ∙ append-nil (asks_in old)
+    -- a request whose asks were whole up to the next one
+    module _ (later : Standing) (rest : List ℕ) (front : IsInFront t c.wanted rest w) (reached : BoardState) (ask : Ask) (next : Answer → Step)
+        (on : AsksOn now.board reached m.asks.items step (asks ask next)) (may : MayBeAsking reached later.board ask) where
+      abbrev reaching : Chained entry.board now.board reached (asks_in old) m.asks.items step (asks ask next)
+      reaching = chain entry.board m.asks.items step (asks ask next) now.board reached (asks_in old) found on
 
-    -- one part was asked
-    module _ (ask : Ask) (answered : Answered) (the_ask : the_asks ≡ ask ∷ []) (asks_are : m.asks.items ≡ at_of ask answered ∷ []) (answers_is : answers ≡ answered.answer ∷ [])
-        (k : IsAsked here now.seats s2 now.histories h2 ask.lock ask.part answered) where
-      one_grown : Grows now.histories h2
-      one_grown = turn_front here now.seats s2 now.histories h2 ask.lock k.turn
+      since : MayGrow reached later.board
+      since = may_grow reached later.board ask may
 
-      one_asks : AllZip (IsAtOf s2 entry.histories h2) m.asks.items the_asks
-      one_asks =
-          subst (λ (ats : List At). AllZip (IsAtOf s2 entry.histories h2) ats the_asks) (sym asks_are)
-          (subst (λ (askeds : List Ask). AllZip (IsAtOf s2 entry.histories h2) (at_of ask answered ∷ []) askeds) (sym the_ask)
-          (is_at here now.seats s2 now.histories h2 ask.lock ask.part answered k entry.histories c.grown, tt))
+      mark_there : IsMarkOf reached.seats number eh reached.histories m w
+      mark_there = record { request = request; words = words; asks = reaching.asks_are }
 
-      one_answer : answers_at h2 m.asks.items the_asks ≡ answers
-      one_answer =
-          ap (λ ats. answers_at h2 ats the_asks) asks_are ∙ (ap (answers_at h2 (at_of ask answered ∷ [])) the_ask
-          ∙ (ap (λ b. answer (sight b ask.part) ask.part ∷ []) (base-asked here now.seats s2 now.histories h2 ask.lock ask.part answered k) ∙ (ap (λ a. a ∷ []) (sym k.answer_is) ∙ sym answers_is)))
-
-      one_ordered : AreInOrder (asks_in old ++ m.asks.items)
-      one_ordered = subst (λ ats. AreInOrder (asks_in old ++ ats)) (sym asks_are) (order-snoc (asks_in old) (at_of ask answered) c.ordered
-          (all-map (λ (at : At). at.len ≤ length (now.histories at.lock)) (λ a. NotBefore a (at_of ask answered)) (not_before here now.seats s2 now.histories h2 ask.lock ask.part answered k) (asks_in old) within))
-
-      one_own : OwnAreMarked s2 entry.histories h2 (asks_in old ++ m.asks.items)
-      one_own = subst (λ ats. OwnAreMarked s2 entry.histories h2 (asks_in old ++ ats)) (sym asks_are)
-          (own_more here now.seats s2 now.histories h2 ask.lock ask.part answered k entry.histories (asks_in old) c.grown within settled.own)
-
-      -- alone, the answer is that of the run
-      one_run : IsLone alone entry → answers_alone run the_asks ≡ answers
-      one_run lone =
-          let found : run ask.lock ≡ (k.turn).base =
-          sym (lone_leaves here now.seats s2 now.histories h2 ask.lock ask.part answered k (known lone.0) ∙ settled.left_behind lone ask.lock) in
-          ap (answers_alone run) the_ask ∙ (ap (λ b. answer (sight b ask.part) ask.part ∷ []) found ∙ (ap (λ a. a ∷ []) (sym k.answer_is) ∙ sym answers_is))
-
-      one_leaves : IsLone alone entry → (lock : ℕ) → h2 lock ≡ after_asks run the_asks lock
-      one_leaves lone lock =
-          ask_leaves now.histories h2 ask (lone_adds here now.seats s2 now.histories h2 ask.lock ask.part answered k 0 (known lone.0) (c.stay ask.lock 0 (lone.1 ask.lock))) (k.turn).others lock
-          ∙ (ap (λ (h : Histories Event). after_ask h ask lock) (histories_are lone) ∙ ap (λ askeds. after_asks run askeds lock) (sym the_ask))
-
-      part_asked : HasAsked
-      part_asked = record {
-        grown = one_grown;
-        stays = turn_stays here now.seats s2 now.histories h2 ask.lock k.turn;
-        legal = turn_legal here now.seats s2 now.histories h2 ask.lock k.turn;
-        asks = one_asks;
-        answers_are = one_answer;
-        ordered = one_ordered;
-        own = one_own;
-        run_answers = one_run;
-        run_leaves = one_leaves;
+      pub grows_since : MayGrow now.board later.board
+      grows_since = record {
+        grown = grows_on nh reached.histories (later.board).histories (reaching.grows).grown since.grown;
+        stays = λ lock n e. since.stays lock n ((reaching.grows).stays lock n e);
+        still = since.still ∙ (reaching.grows).still;
+        legal = λ l. since.legal ((reaching.grows).legal l);
       }
 
-    has_asked : AreAsked here now later the_asks m.asks.items answers → HasAsked
-    has_asked (none_asked no_asks no_traces no_answers same) = nothing_asked no_asks no_traces no_answers same
-    has_asked (one_asked ask answered the_ask asks_are answers_is k) = part_asked ask answered the_ask asks_are answers_is k
+      pub was_asking : WasAsking t entry later c.wanted old rest m
+      was_asking = record {
+        wanted = w;
+        front = front;
+        marked = subst (λ (n : ℕ). IsMarkOf (later.board).seats n eh (later.board).histories m w) count (mark-grown reached.seats (later.board).seats eh reached.histories (later.board).histories since.grown since.stays number m w mark_there);
+        ordered = subst AreInOrder (sym (asks_in-snoc old m)) (reaching.found).ordered;
+        found = reached;
+        settled = record {
+          own = subst (OwnAreMarked reached.seats eh reached.histories) (sym (asks_in-snoc old m)) (reaching.found).own;
+          turns = subst (TurnsAreMarked (entry.board).turns reached.turns) (sym (asks_in-snoc old m)) (reaching.found).turns;
+          left_behind = λ lone lock. reaching.run (lone_now lone) lock ∙ (λ i. after_asks (length m.asks.items) (histories_are lone i) step lock);
+        };
+        ask = ask;
+        next = next;
+        next_is = behind-grown reached.seats (later.board).seats eh reached.histories (later.board).histories since.grown since.stays number m w mark_there ∙ reaching.todo_is;
+        may = may;
+      }
 
-    module _ (h : HasAsked) (request : m.request ≡ number) (words : AreWordsFor w.want (given_of m)) where
-      mark_is : IsMarkOf s2 number entry.histories h2 m w
-      mark_is = record { request = request; words = words; asks = h.asks }
+    -- a request whose asks were whole
+    module _ (later : Standing) (reply : Reply) (on : AsksOn now.board later.board m.asks.items step (replies reply)) where
+      abbrev lh : Histories Event
+      lh = (later.board).histories
 
-      marked_before : AreMarksOf s2 0 entry.histories h2 old c.wanted
-      marked_before = marks-grown now.seats s2 entry.histories now.histories h2 h.grown h.stays 0 old c.wanted c.marked
+      abbrev ls : ℕ → Option ℕ
+      ls = (later.board).seats
 
-      talk_before : talk c.wanted old h2 ≡ talk c.wanted old now.histories
-      talk_before = talk-grown now.seats s2 entry.histories now.histories h2 h.grown h.stays 0 old c.wanted c.marked
+      abbrev chained : Chained entry.board now.board later.board (asks_in old) m.asks.items step (replies reply)
+      chained = chain entry.board m.asks.items step (replies reply) now.board later.board (asks_in old) found on
 
-      abbrev reply : List ℕ
-      reply = reply_of w (given_of m) answers
+      mark_is : IsMarkOf ls number eh lh m w
+      mark_is = record { request = request; words = words; asks = chained.asks_are }
 
-      reply_is : reply_at h2 m w ≡ reply
-      reply_is = ap (reply_of w (given_of m)) h.answers_are
+      whole : IsReply (step_behind lh m w)
+      whole = subst IsReply (sym chained.todo_is) tt
 
-      talk_now : talk (c.wanted ++ w ∷ []) (old ++ m ∷ []) h2 ≡ talk c.wanted old now.histories ++ reply
-      talk_now = talk-snoc s2 entry.histories h2 0 old c.wanted m w marked_before ∙ (λ i. talk_before i ++ reply_is i)
+      marked_before : AreMarksOf ls 0 eh lh old c.wanted
+      marked_before = marks-grown (now.board).seats ls eh nh lh (chained.grows).grown (chained.grows).stays 0 old c.wanted c.marked
+
+      talk_before : talk c.wanted old lh ≡ talk c.wanted old nh
+      talk_before = talk-grown (now.board).seats ls eh nh lh (chained.grows).grown (chained.grows).stays 0 old c.wanted c.marked
+
+      abbrev text : List ℕ
+      text = text_of w.close reply
+
+      reply_is : reply_at lh m w ≡ text
+      reply_is = ap (text_at w.close) chained.todo_is
+
+      talk_now : talk (c.wanted ++ w ∷ []) (old ++ m ∷ []) lh ≡ talk c.wanted old nh ++ text
+      talk_now = talk-snoc ls eh lh 0 old c.wanted m w marked_before ∙ (λ i. talk_before i ++ reply_is i)
 
       as_many : length c.wanted ≡ length (givens_of old)
-      as_many = sym (length-map old given_of ∙ marks-length now.seats entry.histories now.histories 0 old c.wanted c.marked)
+      as_many = sym (length-map old given_of ∙ marks-length (now.board).seats eh nh 0 old c.wanted c.marked)
 
-      said_now : IsLone alone entry → talk (c.wanted ++ w ∷ []) (old ++ m ∷ []) h2 ≡ alone_text entry.histories (c.wanted ++ w ∷ []) (givens_of (old ++ m ∷ []))
+      run_text : IsLone entry.board → text_alone run w (given_of m) ≡ text
+      run_text lone = (λ i. text_of w.close (reply_alone step (sym (histories_are lone) i))) ∙ ap (text_of w.close) (chained.run_all (lone_now lone) reply refl).0
+
+      said_now : IsLone entry.board → talk (c.wanted ++ w ∷ []) (old ++ m ∷ []) lh ≡ alone_text eh (c.wanted ++ w ∷ []) (givens_of (old ++ m ∷ []))
       said_now lone =
-          let run_text : alone_text entry.histories (c.wanted ++ w ∷ []) (givens_of (old ++ m ∷ [])) ≡ talk c.wanted old now.histories ++ reply =
-          ap (alone_text entry.histories (c.wanted ++ w ∷ [])) (givens_of-snoc old m)
-          ∙ (alone_text-snoc entry.histories c.wanted (givens_of old) w (given_of m) as_many
-          ∙ (ap (λ l. l ++ reply_of w (given_of m) (answers_alone run the_asks)) (sym (c.said lone)) ∙ ap (λ told. talk c.wanted old now.histories ++ reply_of w (given_of m) told) (h.run_answers lone))) in
-          talk_now ∙ sym run_text
+          let run_all : alone_text eh (c.wanted ++ w ∷ []) (givens_of (old ++ m ∷ [])) ≡ talk c.wanted old nh ++ text =
+          ap (alone_text eh (c.wanted ++ w ∷ [])) (givens_of-snoc old m)
+          ∙ (alone_text-snoc eh c.wanted (givens_of old) w (given_of m) as_many ∙ (λ i. sym (c.said lone) i ++ run_text lone i)) in
+          talk_now ∙ sym run_all
 
-      left_behind_now : IsLone alone entry → (lock : ℕ) → h2 lock ≡ after_all entry.histories (c.wanted ++ w ∷ []) (givens_of (old ++ m ∷ [])) lock
+      left_behind_now : IsLone entry.board → (lock : ℕ) → lh lock ≡ after_all eh (c.wanted ++ w ∷ []) (givens_of (old ++ m ∷ [])) lock
       left_behind_now lone lock =
-          let run_now : after_all entry.histories (c.wanted ++ w ∷ []) (givens_of (old ++ m ∷ [])) ≡ after_asks run the_asks =
-          ap (after_all entry.histories (c.wanted ++ w ∷ [])) (givens_of-snoc old m) ∙ after_all-snoc entry.histories c.wanted (givens_of old) w (given_of m) as_many in
-          h.run_leaves lone lock ∙ ap (λ (g : Histories Event). g lock) (sym run_now)
+          let run_now : after_all eh (c.wanted ++ w ∷ []) (givens_of (old ++ m ∷ [])) ≡ after_step step run =
+          ap (after_all eh (c.wanted ++ w ∷ [])) (givens_of-snoc old m) ∙ after_all-snoc eh c.wanted (givens_of old) w (given_of m) as_many in
+          (chained.run_all (lone_now lone) reply refl).1 lock ∙ ((λ i. after_step step (histories_are lone i) lock) ∙ ap (λ (g : Histories Event). g lock) (sym run_now))
 
-      talk_all : talk c.wanted old now.histories ≡ c.sent
-      talk_all = sym (append-nil (talk c.wanted old now.histories)) ∙ (c.text ∙ append-nil c.sent)
+      talk_all : talk c.wanted old nh ≡ c.sent
+      talk_all = sym (append-nil (talk c.wanted old nh)) ∙ (c.text ∙ append-nil c.sent)
 
       -- the request was marked, and its reply was written but for unsent
-      conversed_marked : number < most_requests → (open_now : AreOpen c.wanted) → (buffer2 : List ℕ) → length buffer2 < most_piece → (bytes taken : List ℕ) → Consumes now.left left2 taken → buffer ++ taken ≡ bytes ++ buffer2 → Wants t bytes w
-          → (sent unsent : List ℕ) → reply ≡ sent ++ unsent → Appends now.held held2 sent
-          → (c2 : Conversed alone t entry later (old ++ m ∷ []) buffer2 [] unsent) × (c2.wanted ≡ c.wanted ++ w ∷ []) × IsSettled alone entry later (old ++ m ∷ []) c2.wanted × IsOfReply alone entry later c2.wanted (old ++ m ∷ []) unsent
+      conversed_marked : number < most_requests → (open_now : AreOpen c.wanted) → (buffer2 : List ℕ) → length buffer2 < most_piece → (bytes taken : List ℕ) → Consumes now.left later.left taken → buffer ++ taken ≡ bytes ++ buffer2 → Wants t bytes w
+          → (sent unsent : List ℕ) → text ≡ sent ++ unsent → Appends now.held later.held sent
+          → (c2 : Conversed t entry later (old ++ m ∷ []) buffer2 [] unsent) × (c2.wanted ≡ c.wanted ++ w ∷ []) × AreSettled entry later (old ++ m ∷ []) c2.wanted × IsOfReply entry later c2.wanted (old ++ m ∷ []) unsent
       conversed_marked few open_now buffer2 little bytes taken consumed parts is sent unsent text_is appended = (
         record {
           requests = c.requests ++ bytes ∷ [];
@@ -261,21 +271,23 @@ module _ (alone here : Type 0) (known : alone → here) (t : Table) (entry now :
               let bytes_are : (concat c.requests ++ buffer) ++ taken ≡ concat (c.requests ++ bytes ∷ []) ++ buffer2 =
               append_assoc (concat c.requests) buffer taken ∙ (ap (λ b. concat c.requests ++ b) parts
               ∙ (sym (append_assoc (concat c.requests) bytes buffer2) ∙ ap (λ b. b ++ buffer2) (sym (concat-snoc c.requests bytes)))) in
-              subst (λ b. Consumes entry.left left2 b) bytes_are (consumes_on entry.left now.left left2 _ _ c.consumed consumed);
+              subst (λ b. Consumes entry.left later.left b) bytes_are (consumes_on entry.left now.left later.left _ _ c.consumed consumed);
           ahead = piece_of_little buffer2 little;
-          grown = grows_on entry.histories now.histories h2 c.grown h.grown;
-          stay = λ lock n e. h.stays lock n (c.stay lock n e);
-          legal = λ all lock. h.legal lock (c.legal all lock);
-          marked = marks-snoc s2 entry.histories h2 0 number old c.wanted m w (omega (arith, count)) marked_before mark_is;
-          ordered = subst AreInOrder (sym (asks_in-snoc old m)) h.ordered;
+          grown = grows_on eh nh lh c.grown (chained.grows).grown;
+          stay = λ lock n e. (chained.grows).stays lock n (c.stay lock n e);
+          still = (chained.grows).still ∙ c.still;
+          legal = (chained.grows).legal c.legal;
+          marked = marks-snoc ls eh lh 0 number old c.wanted m w (omega (arith, count)) marked_before mark_is whole;
+          ordered = subst AreInOrder (sym (asks_in-snoc old m)) (chained.found).ordered;
           text =
-              append-nil (talk (c.wanted ++ w ∷ []) (old ++ m ∷ []) h2) ∙ (talk_now ∙ ((λ i. talk_all i ++ text_is i) ∙ sym (append_assoc c.sent sent unsent)));
-          appended = appends_on entry.held now.held held2 c.sent sent c.appended appended;
+              append-nil (talk (c.wanted ++ w ∷ []) (old ++ m ∷ []) lh) ∙ (talk_now ∙ ((λ i. talk_all i ++ text_is i) ∙ sym (append_assoc c.sent sent unsent)));
+          appended = appends_on entry.held now.held later.held c.sent sent c.appended appended;
           said = said_now;
         },
         refl,
         record {
-          own = subst (λ ats. OwnAreMarked s2 entry.histories h2 ats) (sym (asks_in-snoc old m)) h.own;
+          own = subst (OwnAreMarked ls eh lh) (sym (asks_in-snoc old m)) (chained.found).own;
+          turns = subst (TurnsAreMarked (entry.board).turns (later.board).turns) (sym (asks_in-snoc old m)) (chained.found).turns;
           left_behind = left_behind_now;
         },
         record {
@@ -286,19 +298,15 @@ module _ (alone here : Type 0) (known : alone → here) (t : Table) (entry now :
           requests_are = refl;
           marks_are = refl;
           ends = (sent, reply_is ∙ text_is);
-          said = λ lone. (sent, ap (reply_of w (given_of m)) (h.run_answers lone) ∙ text_is);
+          said = λ lone. (sent, run_text lone ∙ text_is);
         },
       )
 
   -- a whole request was taken and answered, and of the reply all but unsent was written
-  pub conversed_on : number < most_requests → AreOpen c.wanted → (gave : List Given → Type 0) (new : List Mark) (buffer2 unsent bytes taken : List ℕ) (w : Meaning) → length buffer2 < most_piece
-      → Consumes now.left left2 taken → buffer ++ taken ≡ bytes ++ buffer2 → Wants t bytes w → Replies here gave number (answering now.held now.histories now.seats) (answering held2 h2 s2) old new w unsent
-      → (c2 : Conversed alone t entry later new buffer2 [] unsent) × (c2.wanted ≡ c.wanted ++ w ∷ []) × IsSettled alone entry later new c2.wanted × IsOfReply alone entry later c2.wanted new unsent
-  conversed_on few open_now gave new buffer2 unsent bytes taken w little consumed parts is rep =
-      subst (λ (marks : List Mark). (c2 : Conversed alone t entry later marks buffer2 [] unsent) × (c2.wanted ≡ c.wanted ++ w ∷ []) × IsSettled alone entry later marks c2.wanted × IsOfReply alone entry later c2.wanted marks unsent) (sym rep.marks)
-      (conversed_marked w rep.mark rep.answers (has_asked w rep.mark rep.answers (same_asked rep.asked)) rep.request rep.words
-      few open_now buffer2 little bytes taken consumed parts is rep.sent unsent rep.text rep.appended)
-    where
-      same_asked : {askeds : List Ask} {ats : List At} {answers : List Answer} → AreAsked here (answering now.held now.histories now.seats) (answering held2 h2 s2) askeds ats answers → AreAsked here now later askeds ats answers
-      same_asked (none_asked a b d e) = none_asked a b d e
-      same_asked (one_asked ask answered a b d k) = one_asked ask answered a b d k
+  pub conversed_on : (later : Standing) → number < most_requests → AreOpen c.wanted → (gave : List Given → Type 0) (new : List Mark) (buffer2 unsent bytes taken : List ℕ) (w : Meaning) → length buffer2 < most_piece
+      → Consumes now.left later.left taken → buffer ++ taken ≡ bytes ++ buffer2 → Wants t bytes w
+      → Replies gave number (record { held = now.held; board = now.board }) (record { held = later.held; board = later.board }) old new w unsent
+      → (c2 : Conversed t entry later new buffer2 [] unsent) × (c2.wanted ≡ c.wanted ++ w ∷ []) × AreSettled entry later new c2.wanted × IsOfReply entry later c2.wanted new unsent
+  conversed_on later few open_now gave new buffer2 unsent bytes taken w little consumed parts is rep =
+      subst (λ (marks : List Mark). (c2 : Conversed t entry later marks buffer2 [] unsent) × (c2.wanted ≡ c.wanted ++ w ∷ []) × AreSettled entry later marks c2.wanted × IsOfReply entry later c2.wanted marks unsent) (sym rep.marks)
+      (conversed_marked w rep.mark rep.request rep.words later rep.reply rep.asked few open_now buffer2 little bytes taken consumed parts is rep.sent unsent rep.text rep.appended)

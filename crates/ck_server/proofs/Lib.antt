@@ -4,6 +4,12 @@ pub mod DrawingLemmas
 pub mod ReplyLemmas
 -- how far a conversation reads ahead
 pub mod AheadLemmas
+-- counts of faults
+pub mod CauseLemmas
+-- what asks change
+pub mod AskingLemmas
+-- how asks are marked
+pub mod MarkingLemmas
 -- a conversation goes on
 pub mod ConversationLemmas
 -- where a conversation stands after each of its steps

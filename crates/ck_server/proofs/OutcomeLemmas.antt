@@ -1,15 +1,12 @@
 -- Where a conversation stands after each of its steps.
-use Rattle.std.proofs.Common.{◌≡◌, true, false, ℕ, ◌+◌, ◌<◌, List, [], ◌∷◌, ◌++◌, length, take, drop, refl, sym, ap, subst, ◌∙◌, arith, inl, inr, append-nil, length-append, Option, Some, None, Ok, Err}
+use Rattle.std.proofs.Common.{◌≡◌, true, false, ℕ, ◌+◌, ◌<◌, ◌≤◌, List, [], ◌∷◌, ◌++◌, length, take, drop, refl, sym, ap, subst, ◌∙◌, arith, inl, inr, append-nil, length-append, Option, Some, None, Ok, Err}
 use Rattle.std.proofs.lemmas.List.{drop_all, take-append-drop}
 use Rattle.std.specs.Prelude.{⊤, ◌⊎◌}
-use Rattle.std.specs.List.{AllByRecursion, Contains}
+use Rattle.std.specs.List.{AllByRecursion}
 use Rattle.std.specs.Io.KnownBytes.{Appends}
-use Rattle.zone_model.specs.declared.events.Event.{Event}
-use Rattle.zone_model.specs.Histories.{Histories, Grows}
+use Rattle.ck_devices.specs.Causes.{Rose}
 use Rattle.zone_model.specs.Events.{own_of}
-use Rattle.zone_model.specs.Legal.{IsLegal}
-use Rattle.board_model.specs.declared.parts.Part.{Part}
-use Rattle.board_model.specs.Turns.{MayHaveAsked}
+use Rattle.board_model.specs.Turns.{BoardState, AreLegal}
 use Rattle.http_front.specs.declared.faults.FrontFault.{FrontFault}
 use Rattle.http_front.specs.declared.faults.FrontFault.TheVariants as fault
 use Rattle.http_front.specs.declared.request.Request.{Request}
@@ -22,44 +19,35 @@ use Rattle.talk_model.specs.declared.ends.TalkFaultKind.{TalkFaultKind}
 use Rattle.talk_model.specs.declared.ends.TalkFaultKind.TheVariants.{ReadFault, WriteFault, NoMemory}
 use Rattle.talk_model.specs.Requests.{Meaning, Wants}
 use Rattle.talk_model.specs.Given.{Given, given_of, givens_of}
-use Rattle.talk_model.specs.Calls.{Ask}
 use Rattle.talk_model.specs.Connections.{most_requests, GoOn, AreOpen, LeavesAt, last_text}
-use Rattle.talk_model.specs.Marks.{SeatsStay}
-use Rattle.talk_model.proofs.GrowthLemmas.{grows_on, grows_same, marks-grown, talk-grown}
-use Rattle.talk_model.proofs.MarkLemmas.{givens_of-snoc, marks-length, all-map, all-snoc}
-use Rattle.talk_model.proofs.TurnLemmas.{turn_front, turn_stays, turn_legal}
-use Rattle.ck_devices.proofs.Streams.{appends_on}
+use Rattle.talk_model.specs.Alone.{after_all}
+use Rattle.talk_model.proofs.MarkLemmas.{givens_of-snoc, marks-length, all-snoc}
 use Rattle.ck_server.specs.declared.serving.Served.TheVariants as served
-use Rattle.ck_server.specs.Conversations.{Standing, Conversed, IsSettled, IsOfReply}
-use Rattle.ck_server.specs.Answering.{answering, IsSameBoard, IsWanted, IsGivenFor, IsServed, WasAsking, GivesUp, IsLeft, Serves}
+use Rattle.ck_server.specs.Conversations.{Standing, Conversed, IsSettled, AreSettled, IsOfReply}
+use Rattle.ck_server.specs.Answering.{Place, IsWanted, IsGivenFor, IsServed, LeavesUnmarked, LeavesAsking, GivesUp, IsLeft, Serves}
 use Rattle.ck_server.specs.Finishing.{end_at, BreaksLast, Finishes}
-use Rattle.ck_server.specs.Outcomes.{EndsSource, ReadsNoFurtherAt, IsLast, EndsWell, IsInHand, BreaksOff}
+use Rattle.ck_server.specs.Outcomes.{EndsSource, ReadsNoFurtherAt, IsLast, EndsWell, IsInFront, WasGiven, HasInHand, nothing, unmarked, asking, BreaksOff}
 use Rattle.ck_server.proofs.AheadLemmas.{little_behind}
-use Rattle.ck_server.proofs.ConversationLemmas.{conversed-start, conversed_took, conversed_sent, conversed_on}
+use Rattle.ck_server.proofs.AskingLemmas.{MayGrow, same_grows}
+use Rattle.ck_server.proofs.ConversationLemmas.{conversed-start, with_source, with_sink, conversed_took, conversed_sent, conversed_grown, conversed_on, grows_since, was_asking}
 
 -- between two requests
-pub record Goes (alone : Type 0) (t : Table) (entry now : Standing) (marks : List Mark) (buffer : List ℕ) : Type 0 where
-  pub conversed : Conversed alone t entry now marks buffer [] []
-  pub settled : IsSettled alone entry now marks conversed.wanted
+pub record Goes (t : Table) (entry now : Standing) (marks : List Mark) (buffer : List ℕ) : Type 0 where
+  pub conversed : Conversed t entry now marks buffer [] []
+  pub settled : AreSettled entry now marks conversed.wanted
   pub go_on : GoOn conversed.wanted
   pub little : length buffer < most_piece
-
--- the same with other bytes left
-abbrev pub with_left : Standing → Option (List ℕ) → Standing
-with_left s left = record { left = left; held = s.held; histories = s.histories; seats = s.seats }
-
-abbrev pub with_both : Standing → Option (List ℕ) → Option (List ℕ) → Standing
-with_both s left held = record { left = left; held = held; histories = s.histories; seats = s.seats }
 
 no_own-nil : (s : Option ℕ) → own_of s [] ≡ []
 no_own-nil (Some n) = refl
 no_own-nil None = refl
 
-pub goes-start : (alone : Type 0) (t : Table) (entry : Standing) → Goes alone t entry entry [] []
-goes-start alone t entry = record {
-  conversed = conversed-start alone t entry;
+pub goes-start : (t : Table) (entry : Standing) → AreLegal (entry.board).histories → Goes t entry entry [] []
+goes-start t entry legal = record {
+  conversed = conversed-start t entry legal;
   settled = record {
-    own = λ lock. ap (own_of (entry.seats lock)) (drop_all (length (entry.histories lock)) (entry.histories lock) (omega arith)) ∙ no_own-nil (entry.seats lock);
+    own = λ lock. ap (own_of ((entry.board).seats lock)) (drop_all (length ((entry.board).histories lock)) ((entry.board).histories lock) (omega arith)) ∙ no_own-nil ((entry.board).seats lock);
+    turns = λ lock. omega arith;
     left_behind = λ lone lock. refl;
   };
   go_on = tt;
@@ -69,18 +57,19 @@ goes-start alone t entry = record {
 the_end : (a b : End) → Some a ≡ Some b → a ≡ b
 the_end a b e = cc
 
-module _ (alone : Type 0) (t : Table) (gave : List Given → Type 0) (entry now : Standing) (marks : List Mark) (buffer : List ℕ) (goes : Goes alone t entry now marks buffer) (given : gave (givens_of marks)) where
+-- the same with other bytes left and held
+abbrev pub with_both : Standing → Option (List ℕ) → ℕ → Option (List ℕ) → ℕ → Standing
+with_both s left reads held writes = record { left = left; source_faults = reads; held = held; sink_faults = writes; board = s.board }
+
+module _ (t : Table) (gave : List Given → Type 0) (entry now : Standing) (marks : List Mark) (buffer : List ℕ) (goes : Goes t entry now marks buffer) (given : gave (givens_of marks)) where
   as_many : length marks ≡ length (goes.conversed).wanted
-  as_many = marks-length now.seats entry.histories now.histories 0 marks (goes.conversed).wanted (goes.conversed).marked
+  as_many = marks-length (now.board).seats (entry.board).histories (now.board).histories 0 marks (goes.conversed).wanted (goes.conversed).marked
 
   are_open : length marks < most_requests → AreOpen (goes.conversed).wanted
   are_open few = record { few = omega (arith, few, as_many); go_on = goes.go_on }
 
-  abbrev settled_with : (left held : Option (List ℕ)) → IsSettled alone entry (with_both now left held) marks (goes.conversed).wanted
-  settled_with left held = record { own = (goes.settled).own; left_behind = (goes.settled).left_behind }
-
   -- where as many requests were answered as a connection may have
-  pub spent_well : length marks ≡ most_requests → EndsWell alone t gave entry now marks Spent
+  pub spent_well : length marks ≡ most_requests → EndsWell t gave entry now marks Spent
   spent_well all = record {
     rest = buffer;
     conversed = goes.conversed;
@@ -98,9 +87,15 @@ module _ (alone : Type 0) (t : Table) (gave : List Given → Type 0) (entry now 
   }
 
   -- where no further request was read
-  module _ (few : length marks < most_requests) (left held : Option (List ℕ)) (new : List ℕ) (read : ReadsOn now.left left buffer new) where
-    abbrev took : Conversed alone t entry (with_left now left) marks new [] []
-    took = conversed_took alone t entry now left marks buffer new [] [] goes.conversed goes.little read
+  module _ (few : length marks < most_requests) (left : Option (List ℕ)) (reads : ℕ) (held : Option (List ℕ)) (writes : ℕ) (new : List ℕ) (read : ReadsOn now.left left buffer new) where
+    abbrev took : Conversed t entry (with_source now left reads) marks new [] []
+    took = conversed_took t entry now left reads marks buffer new [] [] goes.conversed goes.little read
+
+    abbrev later : Standing
+    later = with_both now left reads held writes
+
+    abbrev settled_later : AreSettled entry later marks (goes.conversed).wanted
+    settled_later = record { own = (goes.settled).own; turns = (goes.settled).turns; left_behind = (goes.settled).left_behind }
 
     -- what the fault says of the bytes
     leaves : (f : FrontFault) (end : End) → IsFault f left new → end_at f ≡ Some end → LeavesAt t end (goes.conversed).wanted new × EndsSource end left × ReadsNoFurtherAt end new
@@ -113,17 +108,17 @@ module _ (alone : Type 0) (t : Table) (gave : List Given → Type 0) (entry now 
     leaves fault.ReadFault end fault_is is = absurd (cc)
     leaves fault.NoMemory end fault_is is = absurd (cc)
 
-    abbrev said_last : (last sent unsent : List ℕ) → last ≡ sent ++ unsent → Appends now.held held sent → Conversed alone t entry (with_both now left held) marks new last unsent
-    said_last last sent unsent parts appended = conversed_sent alone t entry (with_left now left) held marks new last sent unsent took parts appended
+    abbrev said_last : (last sent unsent : List ℕ) → last ≡ sent ++ unsent → Appends now.held held sent → Conversed t entry later marks new last unsent
+    said_last last sent unsent parts appended = conversed_sent t entry (with_source now left reads) held writes marks new last sent unsent took parts appended
 
     -- the end was told
-    pub finished : (f : FrontFault) (end : End) → IsFault f left new → Finishes now.held held f (Ok end) → EndsWell alone t gave entry (with_both now left held) marks end
+    pub finished : (f : FrontFault) (end : End) → IsFault f left new → Finishes now.held held f (Ok end) → EndsWell t gave entry later marks end
     finished f end fault_is finishes =
         let l = leaves f end fault_is finishes.0 in
         record {
           rest = new;
           conversed = said_last (last_text end) (last_text end) [] (sym (append-nil (last_text end))) finishes.1;
-          settled = settled_with left held;
+          settled = settled_later;
           reads = record { requests = (goes.conversed).requests; rest = new; bytes_are = refl; each = (goes.conversed).each; leaves = l.0 };
           source = l.1;
           ahead = l.2;
@@ -135,150 +130,107 @@ module _ (alone : Type 0) (t : Table) (gave : List Given → Type 0) (entry now 
       abbrev parts : last_text b.end ≡ take b.count (last_text b.end) ++ drop b.count (last_text b.end)
       parts = sym (take-append-drop b.count (last_text b.end))
 
-      abbrev cut_last : Conversed alone t entry (with_both now left held) marks new (last_text b.end) (drop b.count (last_text b.end))
+      abbrev cut_last : Conversed t entry later marks new (last_text b.end) (drop b.count (last_text b.end))
       cut_last = said_last (last_text b.end) (take b.count (last_text b.end)) (drop b.count (last_text b.end)) parts b.appended
 
       is_last : IsLast t (goes.conversed).wanted new (last_text b.end)
       is_last = inr (b.end, (leaves f b.end fault_is b.is).0, refl)
 
-    pub broke : (f : FrontFault) (at : TalkFaultKind) → IsFault f left new → Finishes now.held held f (Err at) → BreaksOff alone t gave entry (with_both now left held) marks at
-    broke f ReadFault fault_is finishes = record {
+    pub broke : (f : FrontFault) (at : TalkFaultKind) → (f ≡ fault.ReadFault → Rose entry.source_faults reads) → (at ≡ WriteFault → Rose entry.sink_faults writes) → IsFault f left new → Finishes now.held held f (Err at)
+        → BreaksOff t gave entry later marks at
+    broke f ReadFault read_cause write_cause fault_is finishes = record {
+      cause = read_cause finishes.0;
       rest = new;
       conversed = said_last [] [] [] refl finishes.1;
-      settled = settled_with left held;
+      settled = settled_later;
       open_after = are_open few;
       unfinished = subst (λ (g : FrontFault). IsFault g left new) finishes.0 fault_is;
       given = given;
     }
-    broke f WriteFault fault_is b = record {
+    broke f WriteFault read_cause write_cause fault_is b = record {
+      cause = write_cause refl;
       rest = new;
       last = last_text b.end;
       unsent = drop b.count (last_text b.end);
       conversed = cut_last f fault_is b;
-      settled = settled_with left held;
+      settled = settled_later;
       ends = is_last f fault_is b;
       late = inl (take b.count (last_text b.end), parts f fault_is b);
       given = given;
     }
-    broke f NoMemory fault_is (inl none) = record {
+    broke f NoMemory read_cause write_cause fault_is (inl none) = record {
       rest = new;
       last = [];
       unsent = [];
+      done = marks;
+      begun = [];
       more = [];
+      marks_are = sym (append-nil marks);
       conversed = said_last [] [] [] refl none.1;
-      in_hand = record { before = with_both now left held; settled = settled_with left held; one = omega arith; hand = tt; since = inl refl };
+      in_hand = nothing refl refl settled_later;
       ends = inl refl;
       late = inl ([], refl);
       one_thing = inl refl;
       given = subst gave (sym (append-nil (givens_of marks))) given;
     }
-    broke f NoMemory fault_is (inr b) = record {
+    broke f NoMemory read_cause write_cause fault_is (inr b) = record {
       rest = new;
       last = last_text b.end;
       unsent = drop b.count (last_text b.end);
+      done = marks;
+      begun = [];
       more = [];
+      marks_are = sym (append-nil marks);
       conversed = cut_last f fault_is b;
-      in_hand = record { before = with_both now left held; settled = settled_with left held; one = omega arith; hand = tt; since = inl refl };
+      in_hand = nothing refl refl settled_later;
       ends = is_last f fault_is b;
       late = inl (take b.count (last_text b.end), parts f fault_is b);
-      one_thing = inr refl;
+      one_thing = inr (refl, refl);
       given = subst gave (sym (append-nil (givens_of marks))) given;
     }
 
--- the histories may have grown, and nothing else
-abbrev conversed_grown : (alone : Type 0) (t : Table) (entry now : Standing) (held : Option (List ℕ)) (h : Histories Event) (s : ℕ → Option ℕ) (marks : List Mark) (rest : List ℕ) → (c : Conversed alone t entry now marks rest [] [])
-    → Grows now.histories h → SeatsStay now.seats s → ((lock : ℕ) → IsLegal lock (now.histories lock) → IsLegal lock (h lock)) → Appends now.held held [] → Conversed alone t entry (record { left = now.left; held = held; histories = h; seats = s }) marks rest [] []
-conversed_grown alone t entry now held h s marks rest c grown stay legal kept =
-    let same = talk-grown now.seats s entry.histories now.histories h grown stay 0 marks c.wanted c.marked in
-    record {
-      requests = c.requests;
-      wanted = c.wanted;
-      sent = c.sent;
-      each = c.each;
-      few = c.few;
-      closing = c.closing;
-      consumed = c.consumed;
-      ahead = c.ahead;
-      grown = grows_on entry.histories now.histories h c.grown grown;
-      stay = λ lock n e. stay lock n (c.stay lock n e);
-      legal = λ all lock. legal lock (c.legal all lock);
-      marked = marks-grown now.seats s entry.histories now.histories h grown stay 0 marks c.wanted c.marked;
-      ordered = c.ordered;
-      text = ap (λ (l : List ℕ). l ++ []) same ∙ c.text;
-      appended = subst (λ (bytes : List ℕ). Appends entry.held held bytes) (append-nil c.sent) (appends_on entry.held now.held held c.sent [] c.appended kept);
-      said = λ lone. same ∙ c.said lone;
-    }
-
--- what is known of a board that is alone later is known of one that was alone at first
-may_known : (alone here : Type 0) (known : alone → here) (s s2 : ℕ → Option ℕ) (h h2 : Histories Event) (lock : ℕ) (part : Part) → MayHaveAsked here s s2 h h2 lock part → MayHaveAsked alone s s2 h h2 lock part
-may_known alone here known s s2 h h2 lock part m =
-    let k = m.turn in
-    record {
-      turn = record {
-        seat = k.seat;
-        base = k.base;
-        later = k.later;
-        added = k.added;
-        found = k.found;
-        whole = λ lone. k.whole (known lone);
-        strange = k.strange;
-        sits = k.sits;
-        stays = k.stays;
-        fresh = k.fresh;
-        new_is = k.new_is;
-        legal = k.legal;
-        others = k.others;
-        other_seats = k.other_seats;
-      };
-      added_is = m.added_is;
-    }
-
 -- after a request that was taken
-module _ (alone here : Type 0) (known : alone → here) (t : Table) (entry now : Standing) (old : List Mark) (buffer : List ℕ) (goes : Goes alone t entry now old buffer)
-    (number : ℕ) (count : number ≡ length old) (few : number < most_requests) (left2 held2 : Option (List ℕ)) (h2 : Histories Event) (s2 : ℕ → Option ℕ)
-    (gave_step gave : List Given → Type 0) (join : (more : List Given) → gave_step more → gave (givens_of old ++ more)) (new : List Mark) (buffer2 : List ℕ) (r : Request) (takes : TakesRequest now.left left2 buffer buffer2 r) where
-  abbrev pub standing : Standing
-  standing = record { left = left2; held = held2; histories = h2; seats = s2 }
+module _ (t : Table) (entry now later : Standing) (old : List Mark) (buffer : List ℕ) (goes : Goes t entry now old buffer) (number : ℕ) (count : number ≡ length old) (few : number < most_requests)
+    (gave_step gave : List Given → Type 0) (join : (more : List Given) → gave_step more → gave (givens_of old ++ more)) (new : List Mark) (buffer2 : List ℕ) (r : Request) (takes : TakesRequest now.left later.left buffer buffer2 r) where
+  abbrev before : Place
+  before = record { held = now.held; board = now.board }
 
-  abbrev before : Standing
-  before = answering now.held now.histories now.seats
-
-  abbrev after : Standing
-  after = answering held2 h2 s2
+  abbrev after : Place
+  after = record { held = later.held; board = later.board }
 
   open_now : AreOpen (goes.conversed).wanted
-  open_now = record { few = omega (arith, few, count, as_many alone t (λ given. ⊤) entry now old buffer goes tt); go_on = goes.go_on }
+  open_now = record { few = omega (arith, few, count, as_many t (λ given. ⊤) entry now old buffer goes tt); go_on = goes.go_on }
 
   -- less is left over than one read takes
   little_now : length buffer2 < most_piece
-  little_now = little_behind now.left left2 buffer buffer2 r goes.little takes
+  little_now = little_behind now.left later.left buffer buffer2 r goes.little takes
 
   wants : (w : Meaning) → IsWanted t r w → Wants t takes.bytes w
   wants w is = record { request = r; is = takes.is; close = is.close; want = is.want }
 
   -- a request more
   record OneMore (w : Meaning) (unsent : List ℕ) : Type 0 where
-    conversed : Conversed alone t entry standing new buffer2 [] unsent
+    conversed : Conversed t entry later new buffer2 [] unsent
     wanted_are : conversed.wanted ≡ (goes.conversed).wanted ++ w ∷ []
-    settled : IsSettled alone entry standing new conversed.wanted
-    of_reply : IsOfReply alone entry standing conversed.wanted new unsent
+    settled : AreSettled entry later new conversed.wanted
+    of_reply : IsOfReply entry later conversed.wanted new unsent
 
-  one_more : (unsent : List ℕ) → (s : IsServed here gave_step number before after old new t r unsent) → OneMore s.0 unsent
+  one_more : (unsent : List ℕ) → (s : IsServed gave_step number before after old new t r unsent) → OneMore s.0 unsent
   one_more unsent s =
-      let on = conversed_on alone here known t entry now old buffer goes.conversed goes.settled number count left2 held2 h2 s2 few open_now gave_step new buffer2 unsent takes.bytes takes.taken s.0 little_now
+      let on = conversed_on t entry now old buffer goes.conversed goes.settled number count later few open_now gave_step new buffer2 unsent takes.bytes takes.taken s.0 little_now
       takes.consumed takes.parts (wants s.0 s.1) s.2 in
       record { conversed = on.0; wanted_are = on.1; settled = on.2; of_reply = on.3 }
 
-  given_now : (unsent : List ℕ) → IsServed here gave_step number before after old new t r unsent → gave (givens_of new)
+  given_now : (unsent : List ℕ) → IsServed gave_step number before after old new t r unsent → gave (givens_of new)
   given_now unsent s =
       let rep = s.2 in
       subst gave (sym (ap givens_of rep.marks ∙ givens_of-snoc old rep.mark)) (join (given_of rep.mark ∷ []) rep.given)
 
-  pub counted : (unsent : List ℕ) → IsServed here gave_step number before after old new t r unsent → length new ≡ number + 1
+  pub counted : (unsent : List ℕ) → IsServed gave_step number before after old new t r unsent → length new ≡ number + 1
   counted unsent s = let rep = s.2 in ap length rep.marks ∙ (length-append old (rep.mark ∷ []) ∙ omega (arith, count))
 
   -- it did not ask to close
-  pub goes_on : r.close ≡ false → IsServed here gave_step number before after old new t r [] → Goes alone t entry standing new buffer2 × gave (givens_of new) × (length new ≡ number + 1)
+  pub goes_on : r.close ≡ false → IsServed gave_step number before after old new t r [] → Goes t entry later new buffer2 × gave (givens_of new) × (length new ≡ number + 1)
   goes_on stays s =
       let m = one_more [] s in (
         record {
@@ -292,8 +244,8 @@ module _ (alone here : Type 0) (known : alone → here) (t : Table) (entry now :
       )
 
   -- it asked to close
-  pub closes : r.close ≡ true → IsServed here gave_step number before after old new t r [] → EndsWell alone t gave entry standing new CloseAsked
-  closes asks s =
+  pub closes : r.close ≡ true → IsServed gave_step number before after old new t r [] → EndsWell t gave entry later new CloseAsked
+  closes closing s =
       let m = one_more [] s in
       record {
         rest = buffer2;
@@ -304,47 +256,34 @@ module _ (alone here : Type 0) (known : alone → here) (t : Table) (entry now :
           rest = buffer2;
           bytes_are = refl;
           each = (m.conversed).each;
-          leaves = record { before = (goes.conversed).wanted; last = s.0; parts = m.wanted_are; open_before = open_now; closes = (s.1).close ∙ asks };
+          leaves = record { before = (goes.conversed).wanted; last = s.0; parts = m.wanted_are; open_before = open_now; closes = (s.1).close ∙ closing };
         };
         source = tt;
         ahead = little_now;
         given = given_now [] s;
       }
 
-  abbrev read : ReadsOn now.left left2 buffer (takes.bytes ++ buffer2)
-  read = record { taken = takes.taken; consumed = takes.consumed; grown = sym takes.parts; ahead = takes.ahead }
+  abbrev rest : List ℕ
+  rest = takes.bytes ++ buffer2
 
-  abbrev took_it : Conversed alone t entry (with_left now left2) old (takes.bytes ++ buffer2) [] []
-  took_it = conversed_took alone t entry now left2 old buffer (takes.bytes ++ buffer2) [] [] goes.conversed goes.little read
+  abbrev took_it : Conversed t entry (with_source now later.left later.source_faults) old rest [] []
+  took_it = conversed_took t entry now later.left later.source_faults old buffer rest [] [] goes.conversed goes.little (record { taken = takes.taken; consumed = takes.consumed; grown = sym takes.parts; ahead = takes.ahead })
 
-  abbrev kept : Standing
-  kept = record { left = left2; held = held2; histories = now.histories; seats = now.seats }
+  abbrev kept_it : MayGrow now.board later.board → Appends now.held later.held [] → Conversed t entry later old rest [] []
+  kept_it grows appended = conversed_grown t entry (with_source now later.left later.source_faults) later old rest took_it grows refl appended
 
-  settled_before : IsSettled alone entry kept old (goes.conversed).wanted
-  settled_before = record { own = (goes.settled).own; left_behind = (goes.settled).left_behind }
-
-  -- nothing changed but what is left
-  same_board : IsSameBoard before after → kept ≡ standing
-  same_board same = λ i. record { left = left2; held = held2; histories = same.0 i; seats = same.1 i }
-
-  abbrev kept_it : IsSameBoard before after → Appends now.held held2 [] → Conversed alone t entry standing old (takes.bytes ++ buffer2) [] []
-  kept_it same appended = conversed_grown alone t entry (with_left now left2) held2 h2 s2 old (takes.bytes ++ buffer2) took_it
-      (subst (λ (h : Histories Event). Grows now.histories h) same.0 (grows_same now.histories))
-      (subst (λ (s : ℕ → Option ℕ). SeatsStay now.seats s) same.1 (λ lock n e. e))
-      (λ lock. subst (λ (h : Histories Event). IsLegal lock (now.histories lock) → IsLegal lock (h lock)) same.0 (λ l. l)) appended
-
-  settled_same : IsSameBoard before after → IsSettled alone entry standing old (goes.conversed).wanted
-  settled_same same = subst (λ (s : Standing). IsSettled alone entry s old (goes.conversed).wanted) (same_board same) settled_before
+  settled_same : now.board ≡ later.board → AreSettled entry later old (goes.conversed).wanted
+  settled_same same = subst (λ (b : BoardState). IsSettled entry.board b old (after_all (entry.board).histories (goes.conversed).wanted (givens_of old))) same goes.settled
 
   -- its form is not built
-  pub left_unbuilt : IsLeft gave_step before after old new t r → EndsWell alone t gave entry standing new NotBuilt
-  left_unbuilt l = subst (λ (marks : List Mark). EndsWell alone t gave entry standing marks NotBuilt) (sym l.marks) (record {
-    rest = takes.bytes ++ buffer2;
-    conversed = kept_it l.board l.appended;
-    settled = settled_same l.board;
+  pub left_unbuilt : IsLeft gave_step before after old new t r → EndsWell t gave entry later new NotBuilt
+  left_unbuilt l = subst (λ (marks : List Mark). EndsWell t gave entry later marks NotBuilt) (sym l.marks) (record {
+    rest = rest;
+    conversed = kept_it (same_grows now.board later.board l.same) l.appended;
+    settled = settled_same l.same;
     reads = record {
       requests = (goes.conversed).requests;
-      rest = takes.bytes ++ buffer2;
+      rest = rest;
       bytes_are = refl;
       each = (goes.conversed).each;
       leaves = (open_now, record { request = r; has = record { front = takes.bytes; rest = buffer2; parts = refl; is = takes.is }; want = l.want });
@@ -354,83 +293,59 @@ module _ (alone here : Type 0) (known : alone → here) (t : Table) (entry now :
     given = subst gave (append-nil (givens_of old)) (join [] l.given);
   })
 
-  -- what was given for the request that was taken
-  hand_of : (g : Given) → IsGivenFor t r g → IsInHand t (goes.conversed).wanted (takes.bytes ++ buffer2) g
-  hand_of g k = record {
-    request = takes.bytes;
-    behind = buffer2;
-    wanted = k.wanted;
-    open_before = open_now;
-    whole = refl;
-    means = wants k.wanted k.is;
-    words = k.words;
-  }
+  -- the request that was taken stands in front of the rest
+  in_front : (w : Meaning) → IsWanted t r w → IsInFront t (goes.conversed).wanted rest w
+  in_front w is = record { request = takes.bytes; behind = buffer2; open_before = open_now; whole = refl; means = wants w is }
 
-  hands : (more : List Given) → AllByRecursion (IsGivenFor t r) more → AllByRecursion (IsInHand t (goes.conversed).wanted (takes.bytes ++ buffer2)) more
-  hands more known = all-map (IsGivenFor t r) (IsInHand t (goes.conversed).wanted (takes.bytes ++ buffer2)) hand_of more known
+  -- what was given for it, without a mark
+  given_unmarked : (more : List Given) → length more ≤ 1 → AllByRecursion (IsGivenFor t r) more → AreSettled entry later old (goes.conversed).wanted → HasInHand t entry later (goes.conversed).wanted old rest [] more
+  given_unmarked [] one known settled = nothing refl refl settled
+  given_unmarked (g ∷ []) one known settled = unmarked g refl refl (record { wanted = (known.0).wanted; front = in_front (known.0).wanted (known.0).is; words = (known.0).words }) settled
+  given_unmarked (g ∷ g2 ∷ gs) one known settled = absurd (omega (arith, one))
 
-  -- memory ran out before the mark
-  gave_up : (up : GivesUp here gave_step before after old new t r) → BreaksOff alone t gave entry standing old NoMemory
-  gave_up up = by_board up.may
+  -- memory ran out before there was a reply
+  gave_up : GivesUp gave_step number before after old new t r → BreaksOff t gave entry later new NoMemory
+  gave_up up = by_mark up.leaves
     where
-      by_board : IsSameBoard before after ⊎ WasAsking here before after t r up.more → BreaksOff alone t gave entry standing old NoMemory
-      by_board (inl same) = record {
-        rest = takes.bytes ++ buffer2;
+      by_mark : LeavesUnmarked gave_step before after old new t r ⊎ LeavesAsking gave_step number before after old new t r → BreaksOff t gave entry later new NoMemory
+      by_mark (inl l) = record {
+        rest = rest;
         last = [];
         unsent = [];
-        more = up.more;
-        conversed = kept_it same up.appended;
-        in_hand = record { before = kept; settled = settled_before; one = up.one; hand = hands up.more up.known; since = inl (same_board same) };
+        done = old;
+        begun = [];
+        more = l.more;
+        marks_are = l.marks ∙ sym (append-nil old);
+        conversed = kept_it (same_grows now.board later.board l.same) up.appended;
+        in_hand = given_unmarked l.more l.one l.known (settled_same l.same);
         ends = inl refl;
         late = inl ([], refl);
         one_thing = inl refl;
-        given = join up.more up.given;
+        given = subst (λ (marks : List Mark). gave (givens_of marks ++ l.more)) (sym l.marks) (join l.more l.given);
       }
-      by_board (inr asking) =
-          let k = asking.may in
-          let lock = (asking.ask).lock in
-          record {
-            rest = takes.bytes ++ buffer2;
-            last = [];
-            unsent = [];
-            more = up.more;
-            conversed = conversed_grown alone t entry (with_left now left2) held2 h2 s2 old (takes.bytes ++ buffer2) took_it (turn_front here now.seats s2 now.histories h2 lock k.turn)
-                (turn_stays here now.seats s2 now.histories h2 lock k.turn) (turn_legal here now.seats s2 now.histories h2 lock k.turn) up.appended;
-            in_hand = record {
-              before = kept;
-              settled = settled_before;
-              one = up.one;
-              hand = hands up.more up.known;
-              since = inr (record {
-                given = asking.given;
-                last = asking.last;
-                hand = record {
-                  request = takes.bytes;
-                  behind = buffer2;
-                  wanted = asking.wanted;
-                  open_before = open_now;
-                  whole = refl;
-                  means = wants asking.wanted asking.is;
-                  words = inr asking.words;
-                };
-                drawn = asking.words;
-                asked = asking.ask;
-                among = subst (λ (askeds : List Ask). Contains askeds asking.ask) (sym asking.the_ask) (0, omega arith, refl);
-                may = may_known alone here known now.seats s2 now.histories h2 lock (asking.ask).part asking.may;
-              });
-            };
-            ends = inl refl;
-            late = inl ([], refl);
-            one_thing = inl refl;
-            given = join up.more up.given;
-          }
+      by_mark (inr l) = record {
+        rest = rest;
+        last = [];
+        unsent = [];
+        done = old;
+        begun = l.mark ∷ [];
+        more = [];
+        marks_are = l.marks;
+        conversed = kept_it (grows_since t entry now old buffer goes.conversed goes.settled number count l.wanted l.mark l.request l.words later rest (in_front l.wanted l.is) l.found l.ask l.next l.asked l.may) up.appended;
+        in_hand = asking l.mark refl refl (was_asking t entry now old buffer goes.conversed goes.settled number count l.wanted l.mark l.request l.words later rest (in_front l.wanted l.is) l.found l.ask l.next l.asked l.may);
+        ends = inl refl;
+        late = inl ([], refl);
+        one_thing = inl refl;
+        given = subst gave (sym (append-nil (givens_of new) ∙ (ap givens_of l.marks ∙ givens_of-snoc old l.mark))) (join (given_of l.mark ∷ []) l.given);
+      }
 
   -- after part of a reply was written, or where memory ran out
-  pub breaks_serving : (at : TalkFaultKind) → Serves here gave_step number before after old new t r (Err at) → BreaksOff alone t gave entry standing new at
-  breaks_serving ReadFault serves = absurd serves
-  breaks_serving WriteFault serves =
+  pub breaks_serving : (at : TalkFaultKind) → (at ≡ WriteFault → Rose entry.sink_faults later.sink_faults) → Serves gave_step number before after old new t r (Err at) → BreaksOff t gave entry later new at
+  breaks_serving ReadFault cause serves = absurd serves
+  breaks_serving WriteFault cause serves =
       let m = one_more serves.0 serves.1 in
       record {
+        cause = cause refl;
         rest = buffer2;
         last = [];
         unsent = serves.0;
@@ -440,18 +355,21 @@ module _ (alone here : Type 0) (known : alone → here) (t : Table) (entry now :
         late = inr (refl, little_now, m.of_reply);
         given = given_now serves.0 serves.1;
       }
-  breaks_serving NoMemory (inl serves) =
+  breaks_serving NoMemory cause (inl serves) =
       let m = one_more serves.0 serves.1 in
       record {
         rest = buffer2;
         last = [];
         unsent = serves.0;
+        done = new;
+        begun = [];
         more = [];
+        marks_are = sym (append-nil new);
         conversed = m.conversed;
-        in_hand = record { before = standing; settled = m.settled; one = omega arith; hand = tt; since = inl refl };
+        in_hand = nothing refl refl m.settled;
         ends = inl refl;
         late = inr (refl, little_now, m.of_reply);
-        one_thing = inr refl;
+        one_thing = inr (refl, refl);
         given = subst gave (sym (append-nil (givens_of new))) (given_now serves.0 serves.1);
       }
-  breaks_serving NoMemory (inr up) = subst (λ (marks : List Mark). BreaksOff alone t gave entry standing marks NoMemory) (sym up.marks) (gave_up up)
+  breaks_serving NoMemory cause (inr up) = gave_up up

@@ -6,25 +6,25 @@ use Rattle.std.proofs.lemmas.Bool.{and_parts}
 use Rattle.std.specs.Result.{IsErrAnd}
 use Rattle.std.specs.Io.KnownBytes.{Appends}
 use Rattle.std.specs.List.{AllByRecursion}
-use Rattle.zone_model.specs.declared.events.Event.{Event}
-use Rattle.zone_model.specs.Histories.{Histories}
 use Rattle.ck_base.specs.declared.key.ZoneKey.{ZoneKey}
 use Rattle.ck_base.specs.declared.route.Database.{Database}
 use Rattle.ck_base.specs.declared.route.Database.TheVariants.{Private, Shared, Public}
 use Rattle.ck_base.specs.KnownNames.{is_own_default}
 use Rattle.zone_laws.proofs.NameLaws.{same-true}
 use Rattle.board_model.specs.Parts.{IsOwnDefault, MayBeAsked}
+use Rattle.board_model.specs.Turns.{BoardState, MayHaveAsked}
 use Rattle.board_model.specs.declared.answers.Answer.{Answer}
 use Rattle.board_model.specs.declared.answers.Answer.TheVariants as answer
-use Rattle.board_model.specs.declared.answers.Answered.{Answered}
-use Rattle.board_model.specs.Turns.{MayHaveAsked}
 use Rattle.ck_devices.specs.Runs.{GivesInTurn}
 use Rattle.ck_devices.specs.declared.faults.Failed.{Failed}
 use Rattle.ck_devices.proofs.Streams.{appends-nil}
 use Rattle.error_replies.specs.declared.errors.ServerError.{ServerError}
 use Rattle.error_replies.specs.declared.errors.ServerError.TheVariants.{TryAgainLater}
+use Rattle.wire_calls.specs.declared.call.ModifyCall.{ModifyCall}
+use Rattle.wire_calls.specs.declared.call.LookupCall.{LookupCall}
 use Rattle.wire_calls.specs.declared.call.Call.{Call}
 use Rattle.wire_calls.specs.declared.call.Call.TheVariants.{Modify, Lookup}
+use Rattle.wire_calls.specs.declared.reply.Reply.{Reply}
 use Rattle.wire_calls.specs.declared.reply.Reply.TheVariants.{Refused}
 use Rattle.http_front.specs.declared.request.Request.{Request}
 use Rattle.http_front.specs.Users.{Table}
@@ -34,66 +34,98 @@ use Rattle.talk_model.specs.declared.wants.Want.{Want}
 use Rattle.talk_model.specs.declared.wants.Want.TheVariants.{Called}
 use Rattle.talk_model.specs.declared.ends.TalkFaultKind.{TalkFaultKind}
 use Rattle.talk_model.specs.declared.ends.TalkFaultKind.TheVariants.{ReadFault, WriteFault, NoMemory}
-use Rattle.wire_calls.specs.Meant.{IsMeantZone}
+use Rattle.field_values.specs.ZoneIds.{IsMeantZone}
 use Rattle.talk_model.specs.Requests.{Meaning, is_private, want_of}
 use Rattle.talk_model.specs.Given.{Given, given_of, words_of_call, AreSoMany, AreWordsFor, draws_in, GaveFor}
-use Rattle.talk_model.specs.Calls.{Ask, scope_of, lock_of_zone, zone_of, part_of, asks_by, asks_of, reply_to, reply_for, reply_of, text_of}
+use Rattle.talk_model.specs.Calls.{Ask, Step, asks, replies, scope_of, lock_of_zone, modify_reply, lookup_reply, step_of, step_for, text_of}
 use Rattle.ck_server.specs.declared.serving.Served.{Served}
 use Rattle.ck_server.specs.declared.serving.Served.TheVariants as served
-use Rattle.ck_server.specs.declared.serving.Told.{Told}
-use Rattle.ck_server.specs.Conversations.{Standing}
+use Rattle.ck_server.specs.declared.asking.Asking.{Asking}
 use Rattle.ck_server.specs.Askable.{IsServable}
-use Rattle.ck_server.specs.ReplyOptions.{options_of, HasMeantOps, reply_from}
-use Rattle.ck_server.specs.Answering.{answering, at_of, IsSameBoard, AreAsked, none_asked, one_asked, IsWanted, IsGivenFor, IsServed, WasAsking, Serves, Sends}
-use Rattle.ck_server.specs.Marking.{given_with, IsMarked, NotMarked, ask_for, IsTold, ServesWant, Refuses, GaveOne}
+use Rattle.ck_server.specs.ReplyOptions.{HasMeantOps, reply_from}
+use Rattle.ck_server.specs.Outcomes.{MayBeAsking}
+use Rattle.ck_server.specs.Answering.{Place, AsksOn, IsWanted, IsGivenFor, IsServed, LeavesUnmarked, LeavesAsking, Serves, Sends}
+use Rattle.ck_server.specs.Marking.{given_with, IsMarked, asking_of, step_from, IsAskable, StopsAsking, WasMarked, MarksAsks, ServesWant, Refuses, GaveOne}
 
 -- ---- a request that was marked
 
-module _ (alone : Type 0) (gave : List Given → Type 0) (number : ℕ) (held now : Option (List ℕ)) (h h2 : Histories Event) (s s2 : ℕ → Option ℕ) (old new : List Mark) (t : Table) (r : Request) (w : Meaning) (is : IsWanted t r w)
-    (g : Given) (given : gave (g ∷ [])) (ats : List At) (marked : IsMarked number g ats old new) (words : AreWordsFor w.want g) (answers : List Answer)
-    (asked : AreAsked alone (answering held h s) (answering now h2 s2) (asks_of w g) ats answers) (text : List ℕ) (text_is : reply_of w g answers ≡ text) where
-  abbrev before : Standing
-  before = answering held h s
+module _ (gave : List Given → Type 0) (number : ℕ) (before after : Place) (old new : List Mark) (t : Table) (r : Request) (w : Meaning) (is : IsWanted t r w)
+    (g : Given) (given : gave (g ∷ [])) (ats : List At) (marked : IsMarked number g ats old new) (words : AreWordsFor w.want g) where
+  module _ (reply : Reply) (asked : AsksOn before.board after.board ats (step_for w.want g) (replies reply)) where
+    abbrev text : List ℕ
+    text = text_of w.close reply
 
-  abbrev after : Standing
-  after = answering now h2 s2
+    all_served : (sent unsent : List ℕ) → text ≡ sent ++ unsent → Appends before.held after.held sent → IsServed gave number before after old new t r unsent
+    all_served sent unsent parts appended =
+        let k = marked in (
+          w,
+          is,
+          record {
+            mark = k.mark;
+            given = subst (λ (x : Given). gave (x ∷ [])) (sym k.given) given;
+            marks = k.marks;
+            request = k.request;
+            words = subst (λ (x : Given). AreWordsFor w.want x) (sym k.given) words;
+            reply = reply;
+            asked = subst (λ (x : Given). AsksOn before.board after.board (k.mark).asks.items (step_for w.want x) (replies reply)) (sym k.given)
+                (subst (λ (l : List At). AsksOn before.board after.board l (step_for w.want g) (replies reply)) (sym k.asks) asked);
+            sent = sent;
+            text = parts;
+            appended = appended;
+          },
+        )
 
-  all_served : (sent unsent : List ℕ) → text ≡ sent ++ unsent → Appends held now sent → IsServed alone gave number before after old new t r unsent
-  all_served sent unsent parts appended =
-      let k = marked in (
-        w,
-        is,
-        record {
+    -- by what came of its reply
+    pub sent_serves : Appends before.held after.held text → Serves gave number before after old new t r (Ok served.Answered)
+    sent_serves sends = all_served text [] (sym (append-nil text)) sends
+
+    pub broken_serves : (T : Type 0) (at : TalkFaultKind) → Sends {T = T} before.held after.held text (Err at) → Serves gave number before after old new t r (Err at)
+    broken_serves T ReadFault sends = absurd sends
+    broken_serves T WriteFault sends = (drop sends.0 text, all_served (take sends.0 text) (drop sends.0 text) (sym (take-append-drop sends.0 text)) sends.1)
+    broken_serves T NoMemory sends = inl (drop sends.0 text, all_served (take sends.0 text) (drop sends.0 text) (sym (take-append-drop sends.0 text)) sends.1)
+
+  -- memory ran out at an ask, or behind the last one
+  stops : (found : BoardState) (ask : Ask) (next : Answer → Step) → AsksOn before.board found ats (step_for w.want g) (asks ask next) → MayBeAsking found after.board ask → Appends before.held after.held [] → Serves gave number before after old new t r (Err NoMemory)
+  stops found ask next asked may appended =
+      let k = marked in
+      inr (record {
+        appended = appended;
+        leaves = inr (record {
+          wanted = w;
+          is = is;
           mark = k.mark;
           given = subst (λ (x : Given). gave (x ∷ [])) (sym k.given) given;
           marks = k.marks;
           request = k.request;
           words = subst (λ (x : Given). AreWordsFor w.want x) (sym k.given) words;
-          answers = answers;
-          asked = subst (λ (x : Given). AreAsked alone before after (asks_of w x) (k.mark).asks.items answers) (sym k.given) (subst (λ (l : List At). AreAsked alone before after (asks_of w g) l answers) (sym k.asks) asked);
-          sent = sent;
-          text = ap (λ (x : Given). reply_of w x answers) k.given ∙ (text_is ∙ parts);
-          appended = appended;
-        },
-      )
+          found = found;
+          ask = ask;
+          next = next;
+          asked = subst (λ (x : Given). AsksOn before.board found (k.mark).asks.items (step_for w.want x) (asks ask next)) (sym k.given)
+              (subst (λ (l : List At). AsksOn before.board found l (step_for w.want g) (asks ask next)) (sym k.asks) asked);
+          may = may;
+        });
+      })
 
-  -- by what came of its reply
-  pub sent_serves : {T : Type 0} (res : Result T TalkFaultKind) (x : T) → res ≡ Ok x → Sends held now text res → Serves alone gave number before after old new t r (Ok served.Answered)
-  sent_serves {T} res x e sends = all_served text [] (sym (append-nil text)) (subst (λ (k : Result T TalkFaultKind). Sends held now text k) e sends)
+  stopped : (found : BoardState) (todo : Step) → AsksOn before.board found ats (step_for w.want g) todo
+      → (found ≡ after.board) ⊎ ((a : Ask) × (next : Answer → Step) × (todo ≡ asks a next) × MayHaveAsked found after.board a.lock a.part) → Appends before.held after.held []
+      → Serves gave number before after old new t r (Err NoMemory)
+  stopped found (asks a next) asked (inl same) appended = stops found a next asked (inl same) appended
+  stopped found (replies reply) asked (inl same) appended =
+      inl (text_of w.close reply, all_served reply (subst (λ (b : BoardState). AsksOn before.board b ats (step_for w.want g) (replies reply)) same asked) [] (text_of w.close reply) refl appended)
+  stopped found todo asked (inr k) appended = stops found k.0 k.1 (subst (λ (s : Step). AsksOn before.board found ats (step_for w.want g) s) k.2 asked) (inr k.3) appended
 
-  pub broken_serves : (T : Type 0) (at : TalkFaultKind) → Sends {T = T} held now text (Err at) → Serves alone gave number before after old new t r (Err at)
-  broken_serves T ReadFault sends = absurd sends
-  broken_serves T WriteFault sends = (drop sends.0 text, all_served (take sends.0 text) (drop sends.0 text) (sym (take-append-drop sends.0 text)) sends.1)
-  broken_serves T NoMemory sends = inl (drop sends.0 text, all_served (take sends.0 text) (drop sends.0 text) (sym (take-append-drop sends.0 text)) sends.1)
+  pub stopped_serves : StopsAsking before.board after.board ats (step_for w.want g) → Appends before.held after.held [] → Serves gave number before after old new t r (Err NoMemory)
+  stopped_serves k appended = stopped k.found k.todo k.asked k.may appended
 
 -- ---- what was given
 
 -- a request is served under whatever follows from what was given
-pub serves_by : (alone : Type 0) (gave gave2 : List Given → Type 0) (number : ℕ) (before after : Standing) (old new : List Mark) (t : Table) (r : Request) → ((given : List Given) → gave given → gave2 given)
-    → (res : Result Served TalkFaultKind) → Serves alone gave number before after old new t r res → Serves alone gave2 number before after old new t r res
-serves_by alone gave gave2 number before after old new t r on res serves = by_result res serves
+pub serves_by : (gave gave2 : List Given → Type 0) (number : ℕ) (before after : Place) (old new : List Mark) (t : Table) (r : Request) → ((given : List Given) → gave given → gave2 given)
+    → (res : Result Served TalkFaultKind) → Serves gave number before after old new t r res → Serves gave2 number before after old new t r res
+serves_by gave gave2 number before after old new t r on res serves = by_result res serves
   where
-    again : (unsent : List ℕ) → IsServed alone gave number before after old new t r unsent → IsServed alone gave2 number before after old new t r unsent
+    again : (unsent : List ℕ) → IsServed gave number before after old new t r unsent → IsServed gave2 number before after old new t r unsent
     again unsent s =
         let p = s.2 in (
           s.0,
@@ -104,7 +136,7 @@ serves_by alone gave gave2 number before after old new t r on res serves = by_re
             marks = p.marks;
             request = p.request;
             words = p.words;
-            answers = p.answers;
+            reply = p.reply;
             asked = p.asked;
             sent = p.sent;
             text = p.text;
@@ -112,13 +144,30 @@ serves_by alone gave gave2 number before after old new t r on res serves = by_re
           },
         )
 
-    by_result : (res : Result Served TalkFaultKind) → Serves alone gave number before after old new t r res → Serves alone gave2 number before after old new t r res
+    leaving : LeavesUnmarked gave before after old new t r ⊎ LeavesAsking gave number before after old new t r → LeavesUnmarked gave2 before after old new t r ⊎ LeavesAsking gave2 number before after old new t r
+    leaving (inl l) = inl (record { marks = l.marks; same = l.same; more = l.more; one = l.one; known = l.known; given = on l.more l.given })
+    leaving (inr l) = inr (record {
+      wanted = l.wanted;
+      is = l.is;
+      mark = l.mark;
+      given = on (given_of l.mark ∷ []) l.given;
+      marks = l.marks;
+      request = l.request;
+      words = l.words;
+      found = l.found;
+      ask = l.ask;
+      next = l.next;
+      asked = l.asked;
+      may = l.may;
+    })
+
+    by_result : (res : Result Served TalkFaultKind) → Serves gave number before after old new t r res → Serves gave2 number before after old new t r res
     by_result (Ok served.Answered) s = again [] s
-    by_result (Ok served.NotBuilt) l = record { want = l.want; given = on [] l.given; marks = l.marks; board = l.board; appended = l.appended }
+    by_result (Ok served.NotBuilt) l = record { want = l.want; given = on [] l.given; marks = l.marks; same = l.same; appended = l.appended }
     by_result (Err ReadFault) s = absurd s
     by_result (Err WriteFault) s = (s.0, again s.0 s.1)
     by_result (Err NoMemory) (inl s) = inl (s.0, again s.0 s.1)
-    by_result (Err NoMemory) (inr up) = inr (record { marks = up.marks; more = up.more; one = up.one; known = up.known; given = on up.more up.given; may = up.may; appended = up.appended })
+    by_result (Err NoMemory) (inr up) = inr (record { appended = up.appended; leaves = leaving up.leaves })
 
 -- a moment and the words of one request
 pub gave_for : {C R : Type 0} (clock : C → ℕ → C → Type 0) (draws : R → Result (List ℕ) Failed → R → Type 0) (c c2 : C) (r r2 : R) (moment : ℕ) → clock c moment c2 → (given : List Given) → GaveOne moment draws r r2 given
@@ -137,68 +186,62 @@ pub by_memory : (X : Result Served TalkFaultKind → Type 0) (res : Result Serve
 by_memory X (Ok x) err k = absurd err
 by_memory X (Err e) err k = subst (λ (at : TalkFaultKind). X (Err at)) (sym err) k
 
--- nothing was done
-pub given_up : (alone : Type 0) (gave : List Given → Type 0) (number : ℕ) (held : Option (List ℕ)) (h : Histories Event) (s : ℕ → Option ℕ) (marks : List Mark) (t : Table) (r : Request) (more : List Given) → length more ≤ 1 → AllByRecursion (IsGivenFor t r) more → gave more
-    → Serves alone gave number (answering held h s) (answering held h s) marks marks t r (Err NoMemory)
-given_up alone gave number held h s marks t r more one known given = inr (record {
-  marks = refl;
-  more = more;
-  one = one;
-  known = known;
-  given = given;
-  may = inl (refl, refl);
-  appended = appends-nil held;
-})
+-- nothing was asked and nothing marked
+pub given_up : (gave : List Given → Type 0) (number : ℕ) (before after : Place) (old new : List Mark) (t : Table) (r : Request) (more : List Given) → length more ≤ 1 → AllByRecursion (IsGivenFor t r) more → gave more
+    → new ≡ old → before.board ≡ after.board → Appends before.held after.held [] → Serves gave number before after old new t r (Err NoMemory)
+given_up gave number before after old new t r more one known given marks same appended =
+    inr (record { appended = appended; leaves = inl (record { marks = marks; same = same; more = more; one = one; known = known; given = given }) })
 
 -- ---- a request that is refused
 
 -- where a draw failed nothing is asked
-pub undrawn_asks : (call : Call) (g : Given) → g.drawn ≡ false → ◌≡◌ {A = List Ask} (asks_by (Called call) g) []
-undrawn_asks call g undrawn = rw undrawn refl
+pub undrawn_step : (call : Call) (g : Given) → g.drawn ≡ false → step_for (Called call) g ≡ replies (Refused TryAgainLater)
+undrawn_step call g undrawn = rw undrawn refl
 
-pub undrawn_reply : (call : Call) (g : Given) → g.drawn ≡ false → reply_for (Called call) g [] ≡ Refused TryAgainLater
-undrawn_reply call g undrawn = rw undrawn refl
+module _ (gave : List Given → Type 0) (number : ℕ) (held now : Option (List ℕ)) (b : BoardState) (old new : List Mark) (close : Bool) (error : ServerError) (want : Want) (g : Given)
+    (given : gave (g ∷ [])) (step : step_for want g ≡ replies (Refused error)) (words : AreWordsFor want g) where
+  abbrev unheld : Place
+  unheld = record { held = held; board = b }
 
--- it asks nothing, and has the reply that was written, so it is served on whatever board
-pub refusal_serves : (alone : Type 0) (gave : List Given → Type 0) (number : ℕ) (held now : Option (List ℕ)) (h : Histories Event) (s : ℕ → Option ℕ) (old new : List Mark) (close : Bool) (error : ServerError) (want : Want) (g : Given)
-    → gave (g ∷ []) → asks_by want g ≡ [] → reply_for want g [] ≡ Refused error → AreWordsFor want g → (res : Result Served TalkFaultKind) → Refuses number g held now old new (text_of close (Refused error)) res
-    → ServesWant alone gave number (answering held h s) (answering now h s) old new close want res
-refusal_serves alone gave number held now h s old new close error want g given no_asks reply words res refuses t r closes wants = by_result res refuses
-  where
-    is : IsWanted t r (record { close = close; want = want })
-    is = record { close = sym closes; want = wants }
+  abbrev refused : Place
+  refused = record { held = now; board = b }
 
-    broken : (at : TalkFaultKind) → IsMarked number g [] old new → Sends {T = Served} held now (text_of close (Refused error)) (Err at) → Serves alone gave number (answering held h s) (answering now h s) old new t r (Err at)
-    broken at marked sends =
-        broken_serves alone gave number held now h h s s old new t r (record { close = close; want = want }) is g given [] marked words [] (none_asked no_asks refl refl (refl, refl)) (text_of close (Refused error)) (ap (text_of close) reply) Served at sends
+  abbrev refused_meaning : Meaning
+  refused_meaning = record { close = close; want = want }
 
-    by_result : (res : Result Served TalkFaultKind) → Refuses number g held now old new (text_of close (Refused error)) res → Serves alone gave number (answering held h s) (answering now h s) old new t r res
-    by_result (Ok served.Answered) k =
-        sent_serves alone gave number held now h h s s old new t r (record { close = close; want = want }) is g given [] k.0 words [] (none_asked no_asks refl refl (refl, refl)) (text_of close (Refused error)) (ap (text_of close) reply) {T = Served} (Ok served.Answered) served.Answered refl k.1
-    by_result (Ok served.NotBuilt) k = absurd k
-    by_result (Err ReadFault) k = absurd k
-    by_result (Err WriteFault) k = broken WriteFault k.marked (k.count, k.appended)
-    by_result (Err NoMemory) (inl k) = inr (record {
-      marks = k.0;
-      more = g ∷ [];
-      one = omega arith;
-      known = (record { wanted = record { close = close; want = want }; is = is; words = inr words }, tt);
-      given = given;
-      may = inl (refl, refl);
-      appended = k.1;
-    })
-    by_result (Err NoMemory) (inr k) = broken NoMemory k.marked (k.count, k.appended)
+  module _ (t : Table) (r : Request) (is : IsWanted t r refused_meaning) where
+    refusal_broken : (at : TalkFaultKind) → IsMarked number g [] old new → Sends {T = Served} held now (text_of close (Refused error)) (Err at) → Serves gave number unheld refused old new t r (Err at)
+    refusal_broken at marked sends = broken_serves gave number unheld refused old new t r refused_meaning is g given [] marked words (Refused error) (refl, step) Served at sends
+
+    refusal_by : (res : Result Served TalkFaultKind) → Refuses number g held now old new (text_of close (Refused error)) res → Serves gave number unheld refused old new t r res
+    refusal_by (Ok served.Answered) k = sent_serves gave number unheld refused old new t r refused_meaning is g given [] k.0 words (Refused error) (refl, step) k.1
+    refusal_by (Ok served.NotBuilt) k = absurd k
+    refusal_by (Err ReadFault) k = absurd k
+    refusal_by (Err WriteFault) k = refusal_broken WriteFault k.marked (k.count, k.appended)
+    refusal_by (Err NoMemory) (inl k) = given_up gave number unheld refused old new t r (g ∷ []) (omega arith) (record { wanted = refused_meaning; is = is; words = inr words }, tt) given k.0 refl k.1
+    refusal_by (Err NoMemory) (inr k) = refusal_broken NoMemory k.marked (k.count, k.appended)
+
+  -- it asks nothing, and has the reply that was written, so it is served on whatever board
+  pub refusal_serves : (res : Result Served TalkFaultKind) → Refuses number g held now old new (text_of close (Refused error)) res → ServesWant gave number unheld refused old new close want res
+  refusal_serves res refuses t r closes wants = refusal_by t r (record { close = sym closes; want = wants }) res refuses
 
 -- ---- a call
 
 -- its reply by its part and its options
-reply_by : (call : Call) (g : Given) (a : Answer) → reply_to call g (a ∷ []) ≡ reply_from (part_of call g) (options_of call) a
-reply_by (Modify c) g (answer.Modify outcomes) = refl
-reply_by (Modify c) g (answer.Lookup records) = refl
-reply_by (Modify c) g answer.NoZone = refl
-reply_by (Lookup c) g (answer.Modify outcomes) = refl
-reply_by (Lookup c) g (answer.Lookup records) = refl
-reply_by (Lookup c) g answer.NoZone = refl
+modify_next : (c : ModifyCall) (g : Given) (a : Answer) → reply_from (asking_of (Modify c) g).part (asking_of (Modify c) g).options a ≡ modify_reply c g a
+modify_next c g (answer.Modify outcomes) = refl
+modify_next c g (answer.Lookup records) = refl
+modify_next c g answer.NoZone = refl
+
+lookup_next : (c : LookupCall) (g : Given) (a : Answer) → reply_from (asking_of (Lookup c) g).part (asking_of (Lookup c) g).options a ≡ lookup_reply c a
+lookup_next c g (answer.Modify outcomes) = refl
+lookup_next c g (answer.Lookup records) = refl
+lookup_next c g answer.NoZone = refl
+
+-- what a call asks first tells its step
+pub step_is : (call : Call) (g : Given) → step_from (asking_of call g) ≡ step_of call g
+step_is (Modify c) g = λ i. asks (record { lock = (asking_of (Modify c) g).lock; part = (asking_of (Modify c) g).part }) (λ a. replies (modify_next c g a i))
+step_is (Lookup c) g = λ i. asks (record { lock = (asking_of (Lookup c) g).lock; part = (asking_of (Lookup c) g).part }) (λ a. replies (lookup_next c g a i))
 
 -- what is built may be asked
 own_default : (caller : List ℕ) (database : Database) (key : ZoneKey) (lock : ℕ) → is_private database ≡ true → is_own_default caller key ≡ true → IsMeantZone caller key → lock ≡ lock_of_zone key → IsOwnDefault lock caller (scope_of database) key
@@ -212,22 +255,29 @@ own_default caller Private key lock private own zone lock_is = record {
 own_default caller Shared key lock private own zone lock_is = absurd (cc)
 own_default caller Public key lock private own zone lock_is = absurd (cc)
 
-pub may_be_asked : (call : Call) (g : Given) (lock : ℕ) → IsServable call → length g.words ≡ words_of_call call → g.moment < 2 ^ 64 → lock ≡ lock_of_zone (zone_of call) → MayBeAsked lock (part_of call g)
-may_be_asked (Modify c) g lock able words moment lock_is =
+may_be_asked : (call : Call) (g : Given) → IsServable call → length g.words ≡ words_of_call call → g.moment < 2 ^ 64 → MayBeAsked (asking_of call g).lock (asking_of call g).part
+may_be_asked (Modify c) g able words moment =
     let built = and_parts _ _ able.built in
     let own = and_parts _ _ built.1 in
     let meant = able.meant in (
-      own_default c.caller c.database c.zone lock built.0 own.0 meant.zone lock_is,
-      record { few = meant.count; plain = own.1; meant = meant.ops; in_time = moment; enough = words },
+      own_default c.caller c.database c.zone (lock_of_zone c.zone) built.0 own.0 meant.zone refl,
+      record { plain = own.1; meant = meant.ops; in_time = moment; enough = words },
     )
-may_be_asked (Lookup c) g lock able words moment lock_is =
+may_be_asked (Lookup c) g able words moment =
     let built = and_parts _ _ able.built in
     let meant = able.meant in
-    own_default c.caller c.database c.zone lock built.0 built.1 meant.zone lock_is
+    own_default c.caller c.database c.zone (lock_of_zone c.zone) built.0 built.1 meant.zone refl
 
-pub has_ops : (call : Call) (g : Given) → IsServable call → length g.words ≡ words_of_call call → HasMeantOps (part_of call g)
+has_ops : (call : Call) (g : Given) → IsServable call → length g.words ≡ words_of_call call → HasMeantOps (asking_of call g).part
 has_ops (Modify c) g able words = let meant = able.meant in (meant.ops, words)
 has_ops (Lookup c) g able words = tt
+
+low_lock : (call : Call) (g : Given) → (asking_of call g).lock < 16
+low_lock (Modify c) g = omega arith
+low_lock (Lookup c) g = omega arith
+
+pub is_askable : (call : Call) (g : Given) (asking : Asking) → IsServable call → length g.words ≡ words_of_call call → g.moment < 2 ^ 64 → asking ≡ asking_of call g → IsAskable asking
+is_askable call g asking able words moment is = subst IsAskable (sym is) (record { lock = low_lock call g; part = may_be_asked call g able words moment; ops = has_ops call g able words })
 
 -- no word was drawn, since memory ran out before
 pub gave_undrawn : {R : Type 0} (moment : ℕ) (draws : R → Result (List ℕ) Failed → R → Type 0) (r r2 : R) → r2 ≡ r → GaveOne moment draws r r2 (given_with moment [] true ∷ [])
@@ -238,60 +288,36 @@ pub known_undrawn : (t : Table) (r : Request) (close : Bool) (call : Call) (mome
 known_undrawn t r close call moment closes wants =
     (record { wanted = record { close = close; want = Called call }; is = record { close = sym closes; want = wants }; words = inl (refl, refl) }, tt)
 
-module _ (alone : Type 0) (gave : List Given → Type 0) (number : ℕ) (held now : Option (List ℕ)) (h h2 : Histories Event) (s s2 : ℕ → Option ℕ) (old new : List Mark) (close : Bool) (call : Call) (g : Given) (given : gave (g ∷ [])) where
-  all_drawn : g.drawn ≡ true → length g.words ≡ words_of_call call → AreWordsFor (Called call) g
-  all_drawn drawn words = subst (λ (b : Bool). AreSoMany b (words_of_call call) (length g.words)) (sym drawn) words
+module _ (gave : List Given → Type 0) (number : ℕ) (before after : Place) (old new : List Mark) (close : Bool) (call : Call) (g : Given) (given : gave (g ∷ [])) (drawn : g.drawn ≡ true) (words : length g.words ≡ words_of_call call)
+    (asking : Asking) (asking_is : asking ≡ asking_of call g) where
+  all_drawn : AreWordsFor (Called call) g
+  all_drawn = subst (λ (b : Bool). AreSoMany b (words_of_call call) (length g.words)) (sym drawn) words
 
-  pub gives_up_unasked : g.drawn ≡ true → length g.words ≡ words_of_call call → held ≡ now → NotMarked alone (answering None h s) (answering None h2 s2) old new (ask_for call g) → ServesWant alone gave number (answering held h s) (answering now h2 s2) old new close (Called call) (Err NoMemory)
-  gives_up_unasked drawn words same not t r closes wants = inr (record {
-    marks = not.marks;
-    more = g ∷ [];
-    one = omega arith;
-    known = (record { wanted = record { close = close; want = Called call }; is = record { close = sym closes; want = wants }; words = inr (all_drawn drawn words) }, tt);
-    given = given;
-    may = by_board not.may;
-    appended = subst (λ (x : Option (List ℕ)). Appends held x []) same (appends-nil held);
-  })
-    where
-      by_board : IsSameBoard (answering None h s) (answering None h2 s2) ⊎ MayHaveAsked alone s s2 h h2 (lock_of_zone (zone_of call)) (part_of call g)
-          → IsSameBoard (answering held h s) (answering now h2 s2) ⊎ WasAsking alone (answering held h s) (answering now h2 s2) t r (g ∷ [])
-      by_board (inl b) = inl b
-      by_board (inr m) = inr (record {
-        wanted = record { close = close; want = Called call };
-        is = record { close = sym closes; want = wants };
-        given = g;
-        last = refl;
-        words = all_drawn drawn words;
-        ask = ask_for call g;
-        the_ask = rw drawn refl;
-        may = m;
-      })
+  its_step : step_from asking ≡ step_for (Called call) g
+  its_step = ap step_from asking_is ∙ (step_is call g ∙ rw drawn refl)
 
-  module _ (drawn : g.drawn ≡ true) (words : length g.words ≡ words_of_call call) (told : Told) (is : IsTold alone number g call (answering None h s) (answering None h2 s2) old new told) where
-    abbrev told_text : List ℕ
-    told_text = text_of close (reply_from told.part told.options (told.answered).answer)
+  abbrev meaning : Meaning
+  meaning = record { close = close; want = Called call }
 
-    told_words : AreWordsFor (Called call) g
-    told_words = all_drawn drawn words
+  module _ (t : Table) (r : Request) (closes : r.close ≡ close) (wants : want_of t r ≡ Some (Called call)) where
+    is_meant : IsWanted t r meaning
+    is_meant = record { close = sym closes; want = wants }
 
-    told_asks : ◌≡◌ {A = List Ask} (asks_by (Called call) g) (ask_for call g ∷ [])
-    told_asks = rw drawn refl
+    -- memory ran out before anything was asked
+    pub unasked : new ≡ old → before.board ≡ after.board → Appends before.held after.held [] → Serves gave number before after old new t r (Err NoMemory)
+    unasked marks same appended = given_up gave number before after old new t r (g ∷ []) (omega arith) (record { wanted = meaning; is = is_meant; words = inr all_drawn }, tt) given marks same appended
 
-    told_asked : AreAsked alone (answering held h s) (answering now h2 s2) (asks_by (Called call) g) (at_of (ask_for call g) told.answered ∷ []) ((told.answered).answer ∷ [])
-    told_asked = one_asked (ask_for call g) told.answered told_asks refl refl (is.marked).asked
+    -- the asks were marked, and then memory ran out, or before
+    pub unanswered : {E : Type 0} (e : E) → MarksAsks {E = E} number g before.board after.board old new (step_from asking) (Err e) → Appends before.held after.held [] → Serves gave number before after old new t r (Err NoMemory)
+    unanswered e (inl k) appended = unasked k.0 k.1 appended
+    unanswered e (inr k) appended = stopped_serves gave number before after old new t r meaning is_meant g given k.ats k.marked all_drawn (subst (λ (s : Step). StopsAsking before.board after.board k.ats s) its_step k.asked) appended
 
-    told_reply : reply_of (record { close = close; want = Called call }) g ((told.answered).answer ∷ []) ≡ told_text
-    told_reply = ap (text_of close) (drawn_reply ∙ (reply_by call g (told.answered).answer ∙ (λ i. reply_from (sym is.part i) (sym is.options i) (told.answered).answer)))
-      where
-        drawn_reply : reply_for (Called call) g ((told.answered).answer ∷ []) ≡ reply_to call g ((told.answered).answer ∷ [])
-        drawn_reply = rw drawn refl
+    module _ {E : Type 0} (reply : Reply) (k : WasMarked {E = E} number g before.board after.board old new (step_from asking) (Ok reply)) where
+      asked_all : AsksOn before.board after.board k.ats (step_for (Called call) g) (replies reply)
+      asked_all = subst (λ (s : Step). AsksOn before.board after.board k.ats s (replies reply)) its_step k.asked
 
-    pub told_sent : {T : Type 0} (x : T) → Sends {T = T} held now told_text (Ok x) → ServesWant alone gave number (answering held h s) (answering now h2 s2) old new close (Called call) (Ok served.Answered)
-    told_sent x sends t r closes wants =
-        sent_serves alone gave number held now h h2 s s2 old new t r (record { close = close; want = Called call }) (record { close = sym closes; want = wants }) g given (at_of (ask_for call g) told.answered ∷ []) (is.marked).marked told_words
-        ((told.answered).answer ∷ []) told_asked told_text told_reply (Ok x) x refl sends
+      pub told_sent : Appends before.held after.held (text_of close reply) → Serves gave number before after old new t r (Ok served.Answered)
+      told_sent sends = sent_serves gave number before after old new t r meaning is_meant g given k.ats k.marked all_drawn reply asked_all sends
 
-    pub told_broken : (T : Type 0) (at : TalkFaultKind) → Sends {T = T} held now told_text (Err at) → ServesWant alone gave number (answering held h s) (answering now h2 s2) old new close (Called call) (Err at)
-    told_broken T at sends t r closes wants =
-        broken_serves alone gave number held now h h2 s s2 old new t r (record { close = close; want = Called call }) (record { close = sym closes; want = wants }) g given (at_of (ask_for call g) told.answered ∷ []) (is.marked).marked told_words
-        ((told.answered).answer ∷ []) told_asked told_text told_reply T at sends
+      pub told_broken : (T : Type 0) (at : TalkFaultKind) → Sends {T = T} before.held after.held (text_of close reply) (Err at) → Serves gave number before after old new t r (Err at)
+      told_broken T at sends = broken_serves gave number before after old new t r meaning is_meant g given k.ats k.marked all_drawn reply asked_all T at sends

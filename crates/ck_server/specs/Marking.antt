@@ -1,11 +1,15 @@
 -- How a request is marked and answered, step by step.
-use Rattle.std.specs.Prelude.{◌≡◌, ◌⊎◌, ℕ, Bool, true, List, [], ◌∷◌, ◌++◌, take, Option, Some, Result, Ok, Err}
+use Rattle.std.specs.Prelude.{◌≡◌, ◌⊎◌, ◌<◌, ◌^◌, ℕ, Bool, List, [], ◌∷◌, ◌++◌, length, take, Option, None, Some, Result, Ok, Err}
 use Rattle.std.specs.Io.KnownBytes.{Appends}
-use Rattle.board_model.specs.declared.answers.Answered.{Answered as AnsweredAsk}
-use Rattle.board_model.specs.Turns.{IsAsked, MayHaveAsked}
+use Rattle.board_model.specs.declared.answers.Answer.{Answer}
+use Rattle.board_model.specs.Parts.{MayBeAsked}
+use Rattle.board_model.specs.Turns.{BoardState, MayHaveAsked}
 use Rattle.ck_devices.specs.declared.faults.Failed.{Failed}
 use Rattle.ck_devices.specs.Runs.{GivesInTurn}
+use Rattle.board_model.specs.declared.parts.Part.TheVariants as part
 use Rattle.wire_calls.specs.declared.call.Call.{Call}
+use Rattle.wire_calls.specs.declared.call.Call.TheVariants.{Modify, Lookup}
+use Rattle.wire_calls.specs.declared.reply.Reply.{Reply}
 use Rattle.http_front.specs.declared.request.Request.{Request}
 use Rattle.http_front.specs.Users.{Table}
 use Rattle.talk_model.specs.declared.marks.At.{At}
@@ -15,13 +19,12 @@ use Rattle.talk_model.specs.declared.ends.TalkFaultKind.{TalkFaultKind}
 use Rattle.talk_model.specs.declared.ends.TalkFaultKind.TheVariants.{ReadFault, WriteFault, NoMemory}
 use Rattle.talk_model.specs.Requests.{want_of}
 use Rattle.talk_model.specs.Given.{Given, given_of, draws_in}
-use Rattle.talk_model.specs.Calls.{Ask, lock_of_zone, zone_of, part_of}
+use Rattle.talk_model.specs.Calls.{Ask, Step, asks, replies, lock_of_zone, scope_of}
 use Rattle.ck_server.specs.declared.serving.Served.{Served}
 use Rattle.ck_server.specs.declared.serving.Served.TheVariants.{Answered, NotBuilt}
-use Rattle.ck_server.specs.declared.serving.Told.{Told}
-use Rattle.ck_server.specs.Conversations.{Standing}
-use Rattle.ck_server.specs.ReplyOptions.{options_of}
-use Rattle.ck_server.specs.Answering.{at_of, IsSameBoard, Serves}
+use Rattle.ck_server.specs.declared.asking.Asking.{Asking}
+use Rattle.ck_server.specs.ReplyOptions.{HasMeantOps, reply_from}
+use Rattle.ck_server.specs.Answering.{Place, AsksOn, Serves}
 
 abbrev pub given_with : ℕ → List (List ℕ) → Bool → Given
 given_with moment words drawn = record { moment = moment; words = words; drawn = drawn }
@@ -34,39 +37,56 @@ pub record IsMarked (number : ℕ) (g : Given) (ats : List At) (old new : List M
   pub given : given_of mark ≡ g
   pub asks : mark.asks.items ≡ ats
 
--- The part was asked, and its request was marked with that ask.
-pub record Marked (alone : Type 0) (number : ℕ) (g : Given) (before after : Standing) (old new : List Mark) (ask : Ask) (answered : AnsweredAsk) : Type 0 where
-  pub marked : IsMarked number g (at_of ask answered ∷ []) old new
-  pub asked : IsAsked alone before.seats after.seats before.histories after.histories ask.lock ask.part answered
+-- what a call asks first
+abbrev pub asking_of : Call → Given → Asking
+asking_of (Modify c) g = record {
+  lock = lock_of_zone c.zone;
+  part = part.Modify c.caller (scope_of c.database) c.zone c.atomic c.ops g.moment g.words;
+  options = record { numbers_as_strings = c.numbers_as_strings; desired_keys = None };
+}
+asking_of (Lookup c) g = record {
+  lock = lock_of_zone c.zone;
+  part = part.Lookup c.caller (scope_of c.database) c.zone c.names;
+  options = record { numbers_as_strings = c.numbers_as_strings; desired_keys = c.desired_keys };
+}
 
--- Nothing was marked, and the board is as it was, or has perhaps been asked.
-pub record NotMarked (alone : Type 0) (before after : Standing) (old new : List Mark) (ask : Ask) : Type 0 where
-  pub marks : new ≡ old
-  pub may : IsSameBoard before after ⊎ MayHaveAsked alone before.seats after.seats before.histories after.histories ask.lock ask.part
+-- what is to be done where this is asked
+abbrev pub step_from : Asking → Step
+step_from a = asks (record { lock = a.lock; part = a.part }) (λ answer. replies (reply_from a.part a.options answer))
 
--- a part was asked and marked, or memory ran out before
-abbrev pub WasMarked : {E : Type 0} → Type 0 → ℕ → Given → Standing → Standing → List Mark → List Mark → Ask → Result AnsweredAsk E → Type 0
-WasMarked alone number g before after old new ask (Ok answered) = Marked alone number g before after old new ask answered
-WasMarked alone number g before after old new ask (Err e) = NotMarked alone before after old new ask
+-- it may be asked
+pub record IsAskable (a : Asking) : Type 0 where
+  pub lock : a.lock < 16
+  pub part : MayBeAsked a.lock a.part
+  pub ops : HasMeantOps a.part
 
--- what a call asks, and where
-abbrev pub ask_for : Call → Given → Ask
-ask_for call g = record { lock = lock_of_zone (zone_of call); part = part_of call g }
+-- An ask of the step, or the building of its reply, found no memory behind the asks that were whole.
+pub record StopsAsking (before after : BoardState) (ats : List At) (step : Step) : Type 0 where
+  pub found : BoardState
+  pub todo : Step
+  pub asked : AsksOn before found ats step todo
+  pub may : (found ≡ after) ⊎ ((a : Ask) × (next : Answer → Step) × (todo ≡ asks a next) × MayHaveAsked found after a.lock a.part)
 
--- The call was asked and marked.
-pub record IsTold (alone : Type 0) (number : ℕ) (g : Given) (call : Call) (before after : Standing) (old new : List Mark) (told : Told) : Type 0 where
-  pub part : told.part ≡ part_of call g
-  pub options : told.options ≡ options_of call
-  pub marked : Marked alone number g before after old new (ask_for call g) told.answered
+-- what the step asks was asked, up to its reply, or memory ran out
+abbrev pub AsksAll : {E : Type 0} → BoardState → BoardState → List At → Step → Result Reply E → Type 0
+AsksAll before after ats step (Ok reply) = AsksOn before after ats step (replies reply)
+AsksAll before after ats step (Err e) = StopsAsking before after ats step
 
-abbrev pub AsksCall : {E : Type 0} → Type 0 → ℕ → Given → Call → Standing → Standing → List Mark → List Mark → Result Told E → Type 0
-AsksCall alone number g call before after old new (Ok told) = IsTold alone number g call before after old new told
-AsksCall alone number g call before after old new (Err e) = NotMarked alone before after old new (ask_for call g)
+-- The request is marked with the asks of its step that were whole.
+pub record WasMarked {E : Type 0} (number : ℕ) (g : Given) (before after : BoardState) (old new : List Mark) (step : Step) (result : Result Reply E) : Type 0 where
+  pub ats : List At
+  pub marked : IsMarked number g ats old new
+  pub asked : AsksAll before after ats step result
+
+-- so it is, or memory ran out before anything was asked or marked
+abbrev pub MarksAsks : {E : Type 0} → ℕ → Given → BoardState → BoardState → List Mark → List Mark → Step → Result Reply E → Type 0
+MarksAsks {E} number g before after old new step (Ok reply) = WasMarked {E = E} number g before after old new step (Ok reply)
+MarksAsks {E} number g before after old new step (Err e) = ((new ≡ old) × (before ≡ after)) ⊎ WasMarked {E = E} number g before after old new step (Err e)
 
 -- a request of which this is wanted is served, by whatever table
-abbrev pub ServesWant : Type 0 → (List Given → Type 0) → ℕ → Standing → Standing → List Mark → List Mark → Bool → Want → Result Served TalkFaultKind → Type 0
-ServesWant alone gave number before after old new close want result =
-    (t : Table) (r : Request) → r.close ≡ close → want_of t r ≡ Some want → Serves alone gave number before after old new t r result
+abbrev pub ServesWant : (List Given → Type 0) → ℕ → Place → Place → List Mark → List Mark → Bool → Want → Result Served TalkFaultKind → Type 0
+ServesWant gave number before after old new close want result =
+    (t : Table) (r : Request) → r.close ≡ close → want_of t r ≡ Some want → Serves gave number before after old new t r result
 
 -- A mark without asks was made, and a front of the text was written.
 pub record BreaksRefusing (number : ℕ) (g : Given) (held now : Option (List ℕ)) (old new : List Mark) (text : List ℕ) : Type 0 where

@@ -1,22 +1,28 @@
 -- How a conversation ends or breaks off.
-use Rattle.std.specs.Prelude.{◌≡◌, ◌⊎◌, ℕ, ◌<◌, ◌≤◌, List, [], ◌∷◌, ◌++◌, length, Option, ⊤}
-use Rattle.std.specs.List.{AllByRecursion, Contains, concat}
+use Rattle.std.specs.Prelude.{◌≡◌, ◌⊎◌, ℕ, true, ◌<◌, ◌≤◌, List, [], ◌∷◌, ◌++◌, length, Option, Result, Ok, Err, ⊤}
+use Rattle.std.specs.List.{concat}
 use Rattle.std.specs.Io.KnownBytes.{IsAtEnd}
-use Rattle.board_model.specs.Turns.{MayHaveAsked}
+use Rattle.ck_devices.specs.Causes.{Rose}
+use Rattle.board_model.specs.declared.answers.Answer.{Answer}
+use Rattle.board_model.specs.Turns.{BoardState, MayHaveAsked}
 use Rattle.http_front.specs.Users.{Table}
 use Rattle.http_front.specs.Requests.{IsUnfinished}
 use Rattle.http_front.specs.Reading.{most_piece}
 use Rattle.talk_model.specs.declared.ends.End.{End}
 use Rattle.talk_model.specs.declared.ends.End.TheVariants.{Closed, Cut, CloseAsked, Spent}
+use Rattle.talk_model.specs.declared.ends.Talk.{Talk}
+use Rattle.talk_model.specs.declared.ends.TalkFault.{TalkFault}
 use Rattle.talk_model.specs.declared.ends.TalkFaultKind.{TalkFaultKind}
 use Rattle.talk_model.specs.declared.ends.TalkFaultKind.TheVariants.{ReadFault, WriteFault, NoMemory}
 use Rattle.talk_model.specs.declared.marks.Mark.{Mark}
+use Rattle.talk_model.specs.declared.wants.Want.{Want}
 use Rattle.talk_model.specs.Requests.{Meaning, Wants}
-use Rattle.talk_model.specs.Given.{Given, givens_of, AreWordsFor}
-use Rattle.talk_model.specs.Calls.{Ask, asks_of}
+use Rattle.talk_model.specs.Given.{Given, given_of, givens_of, AreWordsFor}
+use Rattle.talk_model.specs.Calls.{Ask, Step, asks, step_for}
 use Rattle.talk_model.specs.Connections.{AreOpen, LeavesAt, AreRequests, last_text}
-use Rattle.ck_server.specs.Conversations.{Standing, Conversed, IsSettled, IsOfLast}
-use Rattle.ck_server.specs.Answering.{MayBeWordsFor}
+use Rattle.talk_model.specs.Marks.{IsMarkOf, AreInOrder, asks_in, step_behind}
+use Rattle.talk_model.specs.Alone.{after_all, after_asks}
+use Rattle.ck_server.specs.Conversations.{Standing, Conversed, IsSettled, AreSettled, IsOfLast}
 
 -- at two of the ends the source has ended
 abbrev pub EndsSource : End → Option (List ℕ) → Type 0
@@ -36,80 +42,113 @@ IsLast t wanted rest last = (last ≡ []) ⊎ ((end : End) × LeavesAt t end wan
 
 -- The whole requests that the end tells were answered, and behind the last stands what the end says. The clock and the words
 -- gave what the marks tell.
-pub record EndsWell (alone : Type 0) (t : Table) (gave : List Given → Type 0) (entry now : Standing) (marks : List Mark) (end : End) : Type 0 where
+pub record EndsWell (t : Table) (gave : List Given → Type 0) (entry now : Standing) (marks : List Mark) (end : End) : Type 0 where
   pub rest : List ℕ
-  pub conversed : Conversed alone t entry now marks rest (last_text end) []
-  pub settled : IsSettled alone entry now marks conversed.wanted
+  pub conversed : Conversed t entry now marks rest (last_text end) []
+  pub settled : AreSettled entry now marks conversed.wanted
   pub reads : AreRequests t (concat conversed.requests ++ rest) conversed.wanted end
   pub source : EndsSource end now.left
   pub ahead : ReadsNoFurtherAt end rest
   pub given : gave (givens_of marks)
 
--- This was given for a request that has no mark, and which stands at the front of the rest.
-pub record IsInHand (t : Table) (earlier : List Meaning) (rest : List ℕ) (given : Given) : Type 0 where
+-- A further request, of which this is wanted, stands at the front of the rest.
+pub record IsInFront (t : Table) (earlier : List Meaning) (rest : List ℕ) (wanted : Meaning) : Type 0 where
   pub request : List ℕ
   pub behind : List ℕ
-  pub wanted : Meaning
   pub open_before : AreOpen earlier
   pub whole : rest ≡ request ++ behind
   pub means : Wants t request wanted
+
+-- its words were drawn, or none of them yet
+abbrev pub MayBeWordsFor : Want → Given → Type 0
+MayBeWordsFor want g = ((g.words ≡ []) × (g.drawn ≡ true)) ⊎ AreWordsFor want g
+
+-- This was given for a request that has no mark.
+pub record WasGiven (t : Table) (earlier : List Meaning) (rest : List ℕ) (given : Given) : Type 0 where
+  pub wanted : Meaning
+  pub front : IsInFront t earlier rest wanted
   pub words : MayBeWordsFor wanted.want given
 
--- An ask of that request was in hand when memory ran out: its words were drawn, and at its lock the board may have added what
--- that ask makes with them.
-pub record HasAskInHand (alone : Type 0) (t : Table) (before now : Standing) (earlier : List Meaning) (rest : List ℕ) (more : List Given) : Type 0 where
-  pub given : Given
-  pub last : more ≡ given ∷ []
-  pub hand : IsInHand t earlier rest given
-  pub drawn : AreWordsFor hand.wanted.want given
-  pub asked : Ask
-  pub among : Contains (asks_of hand.wanted given) asked
-  pub may : MayHaveAsked alone before.seats now.seats before.histories now.histories asked.lock asked.part
+-- The board was not asked further, or it was asked this, and may have added what the ask makes.
+abbrev pub MayBeAsking : BoardState → BoardState → Ask → Type 0
+MayBeAsking found now ask = (found ≡ now) ⊎ MayHaveAsked found now ask.lock ask.part
 
--- The histories are those that the marks leave, or one ask was in hand. More is what was given for the request without a mark, if
--- the clock was read for it.
-pub record MayHaveInHand (alone : Type 0) (t : Table) (entry now : Standing) (marks : List Mark) (wanted : List Meaning) (rest : List ℕ) (more : List Given) : Type 0 where
-  pub before : Standing
-  pub settled : IsSettled alone entry before marks wanted
-  pub one : length more ≤ 1
-  pub hand : AllByRecursion (IsInHand t wanted rest) more
-  pub since : (before ≡ now) ⊎ HasAskInHand alone t before now wanted rest more
+-- The request in front has this mark behind those of the earlier ones, which tells the asks of it that were whole; then the next of them was in
+-- hand.
+pub record WasAsking (t : Table) (entry now : Standing) (earlier : List Meaning) (done : List Mark) (rest : List ℕ) (mark : Mark) : Type 0 where
+  pub wanted : Meaning
+  pub front : IsInFront t earlier rest wanted
+  pub marked : IsMarkOf now.board.seats (length done) entry.board.histories now.board.histories mark wanted
+  pub ordered : AreInOrder (asks_in (done ++ mark ∷ []))
+  pub found : BoardState
+  pub settled : IsSettled entry.board found (done ++ mark ∷ [])
+      (after_asks (length mark.asks.items) (after_all entry.board.histories earlier (givens_of done)) (step_for wanted.want (given_of mark)))
+  pub ask : Ask
+  pub next : Answer → Step
+  pub next_is : step_behind now.board.histories mark wanted ≡ asks ask next
+  pub may : MayBeAsking found now.board ask
+
+-- What was in hand when memory ran out, behind the requests that were answered: nothing, a request for which the clock was read and perhaps its
+-- words drawn, or one that was asking. Begun are the marks, and more is what was given for requests, beyond those of the answered ones.
+pub data HasInHand (t : Table) (entry now : Standing) (wanted : List Meaning) (done : List Mark) (rest : List ℕ) (begun : List Mark) (more : List Given) : Type 0 where
+  nothing : begun ≡ [] → more ≡ [] → AreSettled entry now done wanted → HasInHand t entry now wanted done rest begun more
+  unmarked : (given : Given) → begun ≡ [] → more ≡ given ∷ [] → WasGiven t wanted rest given → AreSettled entry now done wanted → HasInHand t entry now wanted done rest begun more
+  asking : (mark : Mark) → begun ≡ mark ∷ [] → more ≡ [] → WasAsking t entry now wanted done rest mark → HasInHand t entry now wanted done rest begun more
 
 -- After a fault of the source all replies to the whole requests that were taken were written.
-pub record BreaksReading (alone : Type 0) (t : Table) (gave : List Given → Type 0) (entry now : Standing) (marks : List Mark) : Type 0 where
+pub record BreaksReading (t : Table) (gave : List Given → Type 0) (entry now : Standing) (marks : List Mark) : Type 0 where
+  pub cause : Rose entry.source_faults now.source_faults
   pub rest : List ℕ
-  pub conversed : Conversed alone t entry now marks rest [] []
-  pub settled : IsSettled alone entry now marks conversed.wanted
+  pub conversed : Conversed t entry now marks rest [] []
+  pub settled : AreSettled entry now marks conversed.wanted
   pub open_after : AreOpen conversed.wanted
   pub unfinished : IsUnfinished rest
   pub given : gave (givens_of marks)
 
 -- After a fault of the sink all was written but the end of the last reply, or of what is written last.
-pub record BreaksWriting (alone : Type 0) (t : Table) (gave : List Given → Type 0) (entry now : Standing) (marks : List Mark) : Type 0 where
+pub record BreaksWriting (t : Table) (gave : List Given → Type 0) (entry now : Standing) (marks : List Mark) : Type 0 where
+  pub cause : Rose entry.sink_faults now.sink_faults
   pub rest : List ℕ
   pub last : List ℕ
   pub unsent : List ℕ
-  pub conversed : Conversed alone t entry now marks rest last unsent
-  pub settled : IsSettled alone entry now marks conversed.wanted
+  pub conversed : Conversed t entry now marks rest last unsent
+  pub settled : AreSettled entry now marks conversed.wanted
   pub ends : IsLast t conversed.wanted rest last
-  pub late : IsOfLast alone entry now conversed.wanted marks rest last unsent
+  pub late : IsOfLast entry now conversed.wanted marks rest last unsent
   pub given : gave (givens_of marks)
 
--- So it is where memory ran out, and one ask may be in hand, but not while some reply is unsent.
-pub record BreaksOnMemory (alone : Type 0) (t : Table) (gave : List Given → Type 0) (entry now : Standing) (marks : List Mark) : Type 0 where
+-- So it is where memory ran out, and one request may be in hand, but not while some reply is unsent.
+pub record BreaksOnMemory (t : Table) (gave : List Given → Type 0) (entry now : Standing) (marks : List Mark) : Type 0 where
   pub rest : List ℕ
   pub last : List ℕ
   pub unsent : List ℕ
+  pub done : List Mark
+  pub begun : List Mark
   pub more : List Given
-  pub conversed : Conversed alone t entry now marks rest last unsent
-  pub in_hand : MayHaveInHand alone t entry now marks conversed.wanted rest more
+  pub marks_are : marks ≡ done ++ begun
+  pub conversed : Conversed t entry now done rest last unsent
+  pub in_hand : HasInHand t entry now conversed.wanted done rest begun more
   pub ends : IsLast t conversed.wanted rest last
-  pub late : IsOfLast alone entry now conversed.wanted marks rest last unsent
-  pub one_thing : (unsent ≡ []) ⊎ (more ≡ [])
+  pub late : IsOfLast entry now conversed.wanted done rest last unsent
+  pub one_thing : (unsent ≡ []) ⊎ ((begun ≡ []) × (more ≡ []))
   pub given : gave (givens_of marks ++ more)
 
 -- what stands of a conversation that breaks off
-abbrev pub BreaksOff : Type 0 → Table → (List Given → Type 0) → Standing → Standing → List Mark → TalkFaultKind → Type 0
-BreaksOff alone t gave entry now marks ReadFault = BreaksReading alone t gave entry now marks
-BreaksOff alone t gave entry now marks WriteFault = BreaksWriting alone t gave entry now marks
-BreaksOff alone t gave entry now marks NoMemory = BreaksOnMemory alone t gave entry now marks
+abbrev pub BreaksOff : Table → (List Given → Type 0) → Standing → Standing → List Mark → TalkFaultKind → Type 0
+BreaksOff t gave entry now marks ReadFault = BreaksReading t gave entry now marks
+BreaksOff t gave entry now marks WriteFault = BreaksWriting t gave entry now marks
+BreaksOff t gave entry now marks NoMemory = BreaksOnMemory t gave entry now marks
+
+-- the marks of a conversation, and its end or what broke it off
+abbrev pub marks_of : Result Talk TalkFault → List Mark
+marks_of (Ok talk) = talk.marks.items
+marks_of (Err fault) = fault.marks.items
+
+abbrev pub outcome_of : Result Talk TalkFault → Result End TalkFaultKind
+outcome_of (Ok talk) = Ok talk.end
+outcome_of (Err fault) = Err fault.at
+
+-- what a conversation comes to
+abbrev pub ComesTo : Table → (List Given → Type 0) → Standing → Standing → List Mark → Result End TalkFaultKind → Type 0
+ComesTo t gave entry now marks (Ok end) = EndsWell t gave entry now marks end
+ComesTo t gave entry now marks (Err at) = BreaksOff t gave entry now marks at

@@ -1,10 +1,8 @@
 // A conversation over one connection.
-ghost use Rattle.std.specs.Prelude.{◌≡◌, ◌⊎◌, ◌≤◌, IfOk, IfErr};
-ghost use Rattle.ck_devices.specs.Causes.{Rose};
+ghost use Rattle.std.specs.Prelude.{◌≤◌};
 ghost use Rattle.talk_model.specs.Given.{Draws, GaveFor};
-ghost use Rattle.talk_model.specs.declared.ends.TalkFaultKind.TheVariants as TalkFaultKind;
-ghost use Rattle.ck_server.specs.Outcomes.{EndsWell, BreaksOff};
-ghost use Rattle.ck_server.specs.Completeness.{IsComplete};
+ghost use Rattle.ck_server.specs.Outcomes.{marks_of, outcome_of};
+ghost use Rattle.ck_server.specs.Completeness.{Converses};
 
 use crate::sending::finish;
 use crate::serving::{Served, serve_request};
@@ -35,24 +33,14 @@ pub fn converse<B: Board, S: Source, W: Sink, C: Clock, R: Words>(
     clock: &mut C,
     words: &mut R,
 ) -> Result<Talk, TalkFault>
-    ensures talk { IfOk result (λ talk. EndsWell (B.alone board.old) users.now (GaveFor C.gives (Draws R.gives R.fault_count) clock.old clock.new words.old words.new)
-        (record { left = S.left source.old; held = W.held sink.old; histories = B.history board.old; seats = B.seats board.old })
-        (record { left = S.left source.new; held = W.held sink.new; histories = B.history board.new; seats = B.seats board.new })
-        talk.marks.items talk.end) }
-    ensures broken { IfErr result (λ fault. BreaksOff (B.alone board.old) users.now (GaveFor C.gives (Draws R.gives R.fault_count) clock.old clock.new words.old words.new)
-        (record { left = S.left source.old; held = W.held sink.old; histories = B.history board.old; seats = B.seats board.old })
-        (record { left = S.left source.new; held = W.held sink.new; histories = B.history board.new; seats = B.seats board.new })
-        fault.marks.items fault.at) }
-    ensures complete { IsComplete users.now
-        (record { left = S.left source.old; held = W.held sink.old; histories = B.history board.old; seats = B.seats board.old })
-        (record { left = S.left source.new; held = W.held sink.new; histories = B.history board.new; seats = B.seats board.new })
-        (Rose (S.fault_count source.old) (S.fault_count source.new) ⊎ Rose (W.fault_count sink.old) (W.fault_count sink.new)) result }
-    ensures alone { B.alone board.old → B.alone board.new }
+    ensures converses { Converses users.now (GaveFor C.gives (Draws R.gives R.fault_count) clock.old clock.new words.old words.new)
+        (record { left = S.left source.old; source_faults = S.fault_count source.old; held = W.held sink.old; sink_faults = W.fault_count sink.old; board = B.state board.old })
+        (record { left = S.left source.new; source_faults = S.fault_count source.new; held = W.held sink.new; sink_faults = W.fault_count sink.new; board = B.state board.new })
+        (marks_of result) (outcome_of result) }
     ensures read_later { S.fault_count source.old ≤ S.fault_count source.new }
     ensures written_later { W.fault_count sink.old ≤ W.fault_count sink.new }
-    ensures read { IfErr result (λ fault. fault.at ≡ TalkFaultKind.ReadFault → Rose (S.fault_count source.old) (S.fault_count source.new)) }
-    ensures write { IfErr result (λ fault. fault.at ≡ TalkFaultKind.WriteFault → Rose (W.fault_count sink.old) (W.fault_count sink.new)) }
 {
+    board.hold_legal();
     let mut marks = Vec::new(alloc);
     let mut buffer = Buffer::new(alloc);
     for number in 0..REQUESTS {

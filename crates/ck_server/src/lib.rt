@@ -1,6 +1,7 @@
 //! The server of record calls over one connection.
 #![tactic(auto)]
 
+mod asking;
 mod built;
 mod conversation;
 mod drawing;

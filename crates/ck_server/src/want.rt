@@ -10,7 +10,7 @@ ghost use Rattle.ck_server.specs.Askable.{MayBeServed};
 use crate::built::{is_built, is_built_route};
 use ck_base::{NoMemory, Route};
 use error_replies::ServerError;
-use http_front::{CallerFault, Request, RouteFault, Users, caller_of, route_of};
+use http_front::{CallerFault, Request, RouteFault, Users, caller_of};
 use std::alloc::Global;
 use talk_model::{Sender, Want};
 use wire_calls::{BadCall, Call, read_call};
@@ -40,7 +40,7 @@ fn find_sender(
     ensures { IfOk result (λ found. found ≡ sender_in users.now request.now) }
 {
     let target = request.target.as_slice();
-    match route_of(alloc, request.method.as_slice(), target) {
+    match users.routes().route_of(request.method.as_slice(), target) {
         Ok(route) => sender_with(alloc, users, route, target),
         Err(RouteFault::NoRoute) => Ok(Err(ServerError::BadRequest)),
         Err(RouteFault::NoMemory) => Err(NoMemory),

@@ -1,13 +1,13 @@
 //! `ckd`, the server, over the devices of the system.
 #![tactic(auto)]
 
-ghost use Rattle.std.specs.Prelude.{◌≡◌};
-ghost use Rattle.ck_command.specs.Endings.{status_of};
-ghost use Rattle.ck_command.specs.Lines.{line_of, Tells};
+ghost use Rattle.std.specs.Prelude.{◌≡◌, ◌↔◌, None};
+ghost use Rattle.ck_command.specs.Arguments.{asked_by};
 
 use ck_base::Text;
-use ck_command::{Ending, run_command};
-use ck_devices::{FolderShelf, RandomDevice, ReaderSource, Sink, SystemClock, WriterSink};
+use ck_command::{Ending, dispatch, end_with};
+use ck_devices::{FolderShelf, RandomDevice, ReaderSource, SystemClock, WriterSink};
+use std::io::ErrorKind;
 use std::process::ExitCode;
 use std::{env, io};
 
@@ -20,42 +20,42 @@ fn command_line(rt: &HostRuntime) -> io::Result<Vec<Text>> {
     Ok(words)
 }
 
-// Tells an ending on standard error, and gives its status.
-fn end_with<E: Sink>(errors: &mut E, ending: Ending<'_>) -> u8
-    ensures status { result ≡ status_of ending.entry }
-    ensures told { Tells (E.held errors.old) (E.held errors.new)
-        (E.fault_count errors.old) (E.fault_count errors.new) (line_of ending.entry) }
-{
-    ending.report(errors);
-    ending.status()
+// The name of the current folder.
+fn current_folder(rt: &HostRuntime) -> io::Result<Text> {
+    Ok(Text::from_str(rt.alloc(), "")?)
 }
 
-// The status of `run` over the devices of the system.
-fn run_on_system(rt: HostRuntime, args: &[Text]) -> u8 {
-    let alloc = rt.alloc();
-    let mut errors = WriterSink::new(rt.stderr());
-    let Ok(folder) = Text::from_str(alloc, "") else {
-        return end_with(&mut errors, Ending::OutOfMemory);
-    };
-    run_command(
-        alloc,
-        args,
+// What the words ask for, over the devices of the system. The answer is the status of the program.
+fn run_on_system(rt: HostRuntime, words: &[Text], folder: Text) -> u8
+    ensures { (result ≡ 2) ↔ (asked_by words.now ≡ None) }
+{
+    dispatch(
+        rt.alloc(),
+        words,
         &mut FolderShelf::new(rt, folder),
         &mut ReaderSource::new(rt.stdin()),
         &mut WriterSink::new(rt.stdout()),
-        &mut errors,
+        &mut WriterSink::new(rt.stderr()),
         &mut SystemClock::new(rt),
         &mut RandomDevice::new(rt),
     )
 }
 
-fn main(rt: HostRuntime) -> ExitCode {
-    if let Ok(words) = command_line(&rt)
-        && let Some((command, args)) = words.split_first()
-        && command.as_str() == "run"
-    {
-        return ExitCode::from(run_on_system(rt, args));
+// How a run ends whose words could not be read: memory ran out, or they are no text.
+fn ending_without_words<'a>(kind: ErrorKind) -> Ending<'a> {
+    match kind {
+        ErrorKind::OutOfMemory => Ending::OutOfMemory,
+        _ => Ending::WrongWords,
     }
-    let mut errors = WriterSink::new(rt.stderr());
-    ExitCode::from(end_with(&mut errors, Ending::WrongWords))
+}
+
+fn main(rt: HostRuntime) -> ExitCode {
+    let (words, folder) = match (command_line(&rt), current_folder(&rt)) {
+        (Ok(words), Ok(folder)) => (words, folder),
+        (Err(error), _) | (_, Err(error)) => {
+            let ending = ending_without_words(error.kind());
+            return ExitCode::from(end_with(&mut WriterSink::new(rt.stderr()), ending));
+        }
+    };
+    ExitCode::from(run_on_system(rt, &words, folder))
 }

@@ -1,9 +1,11 @@
 //! Tests of what no row of a case file can carry: the order in which a conversation uses its devices,
-//! the devices in memory by themselves, the adapters over the system, and copies.
+//! the devices in memory by themselves, the adapters over the system, copies, and the lock in two threads.
 #![tactic(auto)]
 
 #[cfg(test)]
 mod copy_tests;
+#[cfg(test)]
+mod lock_tests;
 #[cfg(test)]
 mod memory_tests;
 #[cfg(test)]
@@ -12,3 +14,4 @@ mod order_devices;
 mod order_tests;
 #[cfg(test)]
 mod system_tests;
+mod turn_lists;

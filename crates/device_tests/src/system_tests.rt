@@ -6,6 +6,7 @@ use ck_devices::{
 };
 use std::cell::Cell;
 use std::io::Read;
+use std::os::unix::fs::symlink;
 use std::test::Fail;
 use std::time::Duration;
 use std::{env, fs, io, process};
@@ -61,6 +62,10 @@ fn folders_give_their_files_and_tell_what_cannot_be_read(rt: HostRuntime) -> Res
     let name = format!(in alloc; "device_tests-{}", process::id(rt.process()))?;
     let path = folder.join(alloc, name.as_str())?;
     fs::write(&rt, path.as_path(), "hello")?;
+    // A link to itself is there, and cannot be opened.
+    let looped = format!(in alloc; "{name}-loop")?;
+    let link = folder.join(alloc, looped.as_str())?;
+    symlink(&rt, looped.as_str(), link.as_path())?;
     env::set_current_dir(&rt, folder.as_path())?;
     let mut into = Vec::new(alloc);
     // A folder opens, and cannot be read.
@@ -71,6 +76,7 @@ fn folders_give_their_files_and_tell_what_cannot_be_read(rt: HostRuntime) -> Res
         ("no such folder", path.as_str(), Ok(true), "hello", 0),
         ("/", "no such file", Ok(false), "", 0),
         ("/", "tmp", Err(ShelfFault::Failed), "", 1),
+        ("", looped.as_str(), Err(ShelfFault::Failed), "", 1),
     ] {
         into.extend_from_slice(b"old")?;
         let mut shelf = FolderShelf::new(rt, Text::from_str(alloc, folder)?);
@@ -79,6 +85,7 @@ fn folders_give_their_files_and_tell_what_cannot_be_read(rt: HostRuntime) -> Res
         assert_eq!(rt; shelf.faults(), faults, "{name} in {folder}");
     }
     fs::remove_file(&rt, path.as_path())?;
+    fs::remove_file(&rt, link.as_path())?;
     Ok(())
 }
 

@@ -3,7 +3,9 @@
 use Rattle.std.specs.Prelude.{ℕ, Bool, ◌==◌, List, [], ◌∷◌, codes}
 use Rattle.std.specs.List.{list_any}
 use Rattle.error_replies.specs.declared.errors.ServerError.{ServerError}
-use Rattle.error_replies.specs.declared.errors.ServerError.TheVariants.{AccessDenied, AtomicError, AuthenticationFailed, AuthenticationRequired, BadRequest, Conflict, Exists, NotFound, TryAgainLater, ValidatingReferenceError, ZoneNotFound}
+use Rattle.error_replies.specs.declared.errors.ServerError.TheVariants.{AccessDenied, AtomicError, AuthenticationFailed, AuthenticationRequired}
+use Rattle.error_replies.specs.declared.errors.ServerError.TheVariants.{BadRequest, Conflict, Exists, NotFound, TryAgainLater}
+use Rattle.error_replies.specs.declared.errors.ServerError.TheVariants.{ValidatingReferenceError, ZoneNotFound}
 
 abbrev pub code_of : ServerError → List ℕ
 code_of AccessDenied = codes "ACCESS_DENIED"

@@ -8,6 +8,8 @@ pub mod Types
 pub mod Numbers
 -- references in JSON
 pub mod References
+-- zone IDs in JSON
+pub mod ZoneIds
 -- which value a field's JSON means, or its first fault
 pub mod Reading
 -- the JSON of a value

@@ -1,8 +1,8 @@
 -- Which value the JSON of a field means, or the first fault. A field is an object with value and
 -- perhaps type, as in "Record Field Dictionary" of the CloudKit Web Services Reference.
-use Rattle.std.specs.Prelude.{ℕ, Bool, not, ◌&&◌, if◌then◌else◌, List, codes, Option, Some, None, Result, Ok, Err}
-use Rattle.serde_json.specs.Data.{Data, null, boolean, number, string, array, object, Items}
-use Rattle.serde_json.specs.Find.{get, as_array}
+use Rattle.std.specs.Prelude.{ℕ, Bool, not, ◌&&◌, if◌then◌else◌, List, codes, Option, Some, None, ok_or, Result, Ok, Err}
+use Rattle.serde_json.specs.Data.{Data, Items}
+use Rattle.serde_json.specs.Find.{get, as_str, as_array}
 use Rattle.base64.specs.Engines.{standard}
 use Rattle.base64.specs.GeneralPurpose.{decode_of}
 use Rattle.base64.specs.declared.decode.DecodeError.{DecodeError}
@@ -21,12 +21,7 @@ use Rattle.field_values.specs.Numbers.{whole_of}
 use Rattle.field_values.specs.References.{reference_of}
 
 abbrev pub text_of : Data → Result (List ℕ) FieldFault
-text_of null = Err WrongValue
-text_of (boolean b) = Err WrongValue
-text_of (number n) = Err WrongValue
-text_of (string s) = Ok s
-text_of (array ds) = Err WrongValue
-text_of (object ms) = Err WrongValue
+text_of d = ok_or (as_str d) WrongValue
 
 abbrev pub unless_undecoded : Result (List ℕ) DecodeError → Result (List ℕ) FieldFault
 unless_undecoded (Ok b) = Ok b

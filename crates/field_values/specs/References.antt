@@ -1,10 +1,12 @@
 -- References in JSON: an object with recordName, and perhaps action and zoneID.
 -- They are those of "Reference Dictionary" in the CloudKit Web Services Reference.
-use Rattle.std.specs.Prelude.{ℕ, Bool, true, false, ◌&&◌, if◌then◌else◌, List, [], ◌∷◌, codes, bytes_eq, find, Option, Some, None, Result, Ok, Err}
-use Rattle.serde_json.specs.Data.{Data, null, boolean, number, string, array, object}
+use Rattle.std.specs.Prelude.{ℕ, Bool, true, false, ◌&&◌, if◌then◌else◌, List, [], ◌∷◌, codes, bytes_eq, find, Option, Some, None, option_and_then, Result, Ok, Err}
+use Rattle.serde_json.specs.Data.{Data}
+use Rattle.serde_json.specs.Find.{as_str}
 use Rattle.ck_base.specs.declared.key.ZoneKey.{ZoneKey}
 use Rattle.ck_base.specs.KnownNames.{default_owner}
 use Rattle.ck_base.specs.Reading.{name_of}
+use Rattle.std.specs.Option.{option_map_or}
 use Rattle.std.specs.Result.{result_ok}
 use Rattle.record_model.specs.declared.value.Action.{Action}
 use Rattle.record_model.specs.declared.value.RefTo.{RefTo}
@@ -25,32 +27,17 @@ action_named name =
 -- without an action it is NONE
 abbrev pub action_in : Option Data → Option Action
 action_in None = Some Action.Plain
-action_in (Some null) = None
-action_in (Some (boolean b)) = None
-action_in (Some (number n)) = None
-action_in (Some (string name)) = action_named name
-action_in (Some (array ds)) = None
-action_in (Some (object ms)) = None
+action_in (Some d) = option_and_then action_named (as_str d)
 
 -- a text that is a name of a record
 abbrev pub name_in : Option Data → Option (List ℕ)
 name_in None = None
-name_in (Some null) = None
-name_in (Some (boolean b)) = None
-name_in (Some (number n)) = None
-name_in (Some (string s)) = result_ok (name_of s)
-name_in (Some (array ds)) = None
-name_in (Some (object ms)) = None
+name_in (Some d) = option_and_then (λ s. result_ok (name_of s)) (as_str d)
 
 -- it is the text
 abbrev pub is_text : List ℕ → Option Data → Bool
 is_text s None = false
-is_text s (Some null) = false
-is_text s (Some (boolean b)) = false
-is_text s (Some (number n)) = false
-is_text s (Some (string t)) = bytes_eq t s
-is_text s (Some (array ds)) = false
-is_text s (Some (object ms)) = false
+is_text s (Some d) = option_map_or (λ t. bytes_eq t s) (as_str d) false
 
 -- the owner of a zone ID: without one, or as `__defaultOwner__`, it is the caller
 abbrev pub is_owner : List ℕ → List ℕ → Option Data → Bool

@@ -1,10 +1,11 @@
 -- The types of fields: their names, and the type that a value shows where none is given.
 -- They are those of "Record Field Dictionary" in the CloudKit Web Services Reference, but for those that are not built.
-use Rattle.std.specs.Prelude.{ℕ, Bool, true, ◌==◌, ◌||◌, length, if◌then◌else◌, List, [], ◌∷◌, ◌++◌, codes, bytes_eq, find, Option, Some, None, is_some, ok_or, Result, Ok, Err}
+use Rattle.std.specs.Prelude.{ℕ, Bool, true, ◌==◌, ◌||◌, length, if◌then◌else◌, List, [], ◌∷◌, ◌++◌, codes, bytes_eq, find}
+use Rattle.std.specs.Prelude.{Option, Some, None, is_some, option_and_then, ok_or, Result, Ok, Err}
 use Rattle.std.specs.List.{list_any, list_all}
 use Rattle.std.specs.Option.{option_or, option_map_or}
 use Rattle.serde_json.specs.Data.{Data, null, boolean, number, string, array, object, Items}
-use Rattle.serde_json.specs.Find.{as_array}
+use Rattle.serde_json.specs.Find.{as_str, as_array}
 use Rattle.record_model.specs.declared.value.Kind.{Kind}
 use Rattle.record_model.specs.declared.value.Shape.{Shape}
 use Rattle.record_model.specs.declared.value.Shape.TheVariants.{Single, ListOf}
@@ -84,9 +85,4 @@ type_shown d = shown_by (as_array d) (kind_shown d)
 -- the type that is given by its name, or else the one that the value shows
 abbrev pub type_wanted : Option Data → Data → Result Shape FieldFault
 type_wanted None d = type_shown d
-type_wanted (Some null) d = Err UnknownType
-type_wanted (Some (boolean b)) d = Err UnknownType
-type_wanted (Some (number n)) d = Err UnknownType
-type_wanted (Some (string name)) d = ok_or (type_named name) UnknownType
-type_wanted (Some (array ds)) d = Err UnknownType
-type_wanted (Some (object ms)) d = Err UnknownType
+type_wanted (Some type) d = ok_or (option_and_then type_named (as_str type)) UnknownType

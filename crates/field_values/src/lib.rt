@@ -12,14 +12,16 @@ mod references;
 mod same;
 mod shapes;
 mod write;
+mod zone_ids;
 
 pub use fault::FieldFault;
 pub use laws::{fields_are_flat, fields_read_back};
 pub use members::{member, unless_null};
-pub use names::{name_in, valid_name};
+pub use names::{is_name, name_in, valid_name};
 pub use read::read_field;
 pub use record_model::{
     Action, Kind, RefTo, Value, Values, compare, copy_value, size_of, values_are_ordered,
 };
 pub use same::same_json;
 pub use write::field_json;
+pub use zone_ids::{zone_in, zone_json};

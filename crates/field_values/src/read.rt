@@ -56,29 +56,24 @@ fn is_field(json: &Json) -> bool
 fn is_true(json: Option<&Json>) -> bool
     ensures { result ≡ is_true (option_map (λ v. view v.now) json.entry) }
 {
-    match json {
-        Some(Json::Bool(truth)) => *truth,
-        Some(_) => false,
-        None => false,
-    }
+    json.and_then(Json::as_bool).unwrap_or(false)
 }
 
 fn read_text(alloc: Global, json: &Json) -> Result<Text, FieldFault>
     ensures text { IsToldUnless FieldFault.NoMemory result (text_of (view json.now)) }
     ensures meant { IfOk result IsUtf8 }
 {
-    let Json::String(text) = json else {
+    let Some(text) = json.as_str() else {
         return Err(FieldFault::WrongValue);
     };
-    let text = Text::from_str(alloc, text.as_str())?;
-    Ok(text)
+    Ok(Text::from_str(alloc, text)?)
 }
 
 fn read_bytes(alloc: Global, json: &Json) -> Result<Bytes, FieldFault>
     ensures bytes { IsToldUnless FieldFault.NoMemory result (bytes_of (view json.now)) }
     ensures meant { IfOk result AreBytes }
 {
-    let Json::String(text) = json else {
+    let Some(text) = json.as_str() else {
         return Err(FieldFault::WrongValue);
     };
     match STANDARD.decode(alloc, text.as_bytes()) {

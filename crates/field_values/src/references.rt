@@ -41,8 +41,7 @@ fn read_action(json: Option<&Json>) -> Option<Action>
     ensures { result ≡ action_in (option_map (λ v. view v.now) json.entry) }
 {
     match json {
-        Some(Json::String(name)) => action_named(name),
-        Some(_) => None,
+        Some(json) => json.as_str().and_then(action_named),
         None => Some(Action::Plain),
     }
 }
@@ -50,9 +49,8 @@ fn read_action(json: Option<&Json>) -> Option<Action>
 fn is_text(text: &[u8], json: Option<&Json>) -> bool
     ensures { result ≡ is_text text.now (option_map (λ v. view v.now) json.entry) }
 {
-    match json {
-        Some(Json::String(found)) => found.as_bytes() == text,
-        Some(_) => false,
+    match json.and_then(Json::as_str) {
+        Some(found) => found.as_bytes() == text,
         None => false,
     }
 }

@@ -149,8 +149,10 @@ pub(crate) fn type_wanted(given: Option<&Json>, value: &Json) -> Result<Shape, F
     ensures { result ≡ type_wanted (option_map (λ t. view t.now) given.entry) (view value.now) }
 {
     match given {
-        Some(Json::String(name)) => type_named(name).ok_or(FieldFault::UnknownType),
-        Some(_) => Err(FieldFault::UnknownType),
+        Some(name) => name
+            .as_str()
+            .and_then(type_named)
+            .ok_or(FieldFault::UnknownType),
         None => type_shown(value),
     }
 }

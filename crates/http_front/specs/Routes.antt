@@ -1,12 +1,15 @@
 -- What a request asks for, by its method and its target: "Composing Web Service Requests" in the CloudKit Web Services Reference, over
 -- the path and the query of RFC 3986, section 3.
-use Rattle.std.specs.Prelude.{◌≡◌, ℕ, ◌+◌, ◌<◌, Bool, true, false, not, ◌&&◌, ◌||◌, ◌==◌, List, ◌∷◌, ◌++◌, length, take, drop, codes, Option, None, Some, Result, Ok, Err, if◌then◌else◌, option_map, option_and_then}
+use Rattle.std.specs.Prelude.{◌≡◌, ℕ, ◌+◌, ◌<◌, Bool, true, false, not, ◌&&◌, ◌||◌, ◌==◌, List, ◌∷◌, ◌++◌, length, take, drop, codes, Option, None}
+use Rattle.std.specs.Prelude.{Some, Result, Ok, Err, if◌then◌else◌, option_map, option_and_then}
 use Rattle.std.specs.List.{position, list_any}
 use Rattle.std.specs.Str.{bytes_eq, is_utf8}
 use Rattle.ck_base.specs.declared.route.Database.{Database}
 use Rattle.ck_base.specs.declared.route.Database.TheVariants.{Private, Shared, Public}
 use Rattle.ck_base.specs.declared.route.Operation.{Operation}
-use Rattle.ck_base.specs.declared.route.Operation.TheVariants.{RecordsModify, RecordsLookup, RecordsQuery, RecordsResolve, RecordsAccept, ZonesList, ZonesLookup, ZonesModify, ChangesZone, ChangesDatabase, SubscriptionsList, SubscriptionsLookup, SubscriptionsModify, SubscriptionsNotices}
+use Rattle.ck_base.specs.declared.route.Operation.TheVariants.{RecordsModify, RecordsLookup, RecordsQuery, RecordsResolve, RecordsAccept, ZonesList}
+use Rattle.ck_base.specs.declared.route.Operation.TheVariants.{ZonesLookup, ZonesModify, ChangesZone, ChangesDatabase, SubscriptionsList}
+use Rattle.ck_base.specs.declared.route.Operation.TheVariants.{SubscriptionsLookup, SubscriptionsModify, SubscriptionsNotices}
 use Rattle.ck_base.specs.declared.route.Route.{Route}
 pub use Rattle.http_front.specs.Environments.{is_environment}
 use Rattle.http_front.specs.declared.route.RouteFault.{RouteFault}

@@ -26,5 +26,5 @@ pub use query::query_item;
 pub use reading::read_request;
 pub use reply::{WriteFault, write_reply};
 pub use request::Request;
-pub use route::{RouteFault, route_of};
+pub use route::{RouteFault, Routes, route_of};
 pub use users::{Users, UsersFault, read_users};

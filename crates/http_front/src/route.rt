@@ -2,7 +2,8 @@
 ghost use Rattle.std.specs.Prelude.{◌≡◌, Some, option_map, IfOk};
 ghost use Rattle.ck_base.specs.Told.{IsToldUnless};
 ghost use Rattle.matchit.specs.Params.{AllText};
-ghost use Rattle.http_front.specs.Routes.{path_of, segments_of as path_segments, database_of, records_call, zones_call, changes_call, subscriptions_call, operation_of, is_list, is_on_links, is_served, route_by, route_of};
+ghost use Rattle.http_front.specs.Routes.{path_of, segments_of as path_segments, database_of, records_call, zones_call, changes_call};
+ghost use Rattle.http_front.specs.Routes.{subscriptions_call, operation_of, is_list, is_on_links, is_served, route_by, route_of};
 ghost use Rattle.http_front.specs.Matching.{path_rows, parts_taken, segments_named, segments_now};
 
 use crate::cuts::place_of;
@@ -262,6 +263,28 @@ fn route_at(router: &Router<()>, method: &[u8], path: &[u8]) -> Result<Route, Ro
     }
 }
 
+/// The forms of the paths that have a route, made ready for any number of requests.
+#[derive(Drop)]
+pub struct Routes {
+    paths: Router<()>,
+    ghost ready: { paths ≡ path_rows },
+}
+
+impl Routes {
+    /// The forms of all paths. It fails only where memory runs out.
+    pub fn new(alloc: Global) -> Result<Routes, NoMemory> {
+        let paths = router(alloc)?;
+        Ok(Routes { paths })
+    }
+
+    /// The route of a request, as the free `route_of` tells it. It takes no memory.
+    pub fn route_of(&self, method: &[u8], target: &[u8]) -> Result<Route, RouteFault>
+        ensures { result ≡ route_of method.now target.now }
+    {
+        route_at(&self.paths, method, path_of(target))
+    }
+}
+
 /// The route of a request by its method and its target, which is an origin form of RFC 9112, section
 /// 3.2.1. Its path, which is UTF-8, is compared as it stands, and is never decoded.
 ///
@@ -272,6 +295,6 @@ fn route_at(router: &Router<()>, method: &[u8], path: &[u8]) -> Result<Route, Ro
 pub fn route_of(alloc: Global, method: &[u8], target: &[u8]) -> Result<Route, RouteFault>
     ensures { IsToldUnless RouteFault.NoMemory result (route_of method.now target.now) }
 {
-    let router = router(alloc)?;
-    route_at(&router, method, path_of(target))
+    let routes = Routes::new(alloc)?;
+    routes.route_of(method, target)
 }

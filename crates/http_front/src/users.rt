@@ -3,9 +3,11 @@ ghost use Rattle.std.specs.Prelude.{◌≡◌, ◌≢◌, ◌<◌, ◌∷◌, []
 ghost use Rattle.std.specs.Option.{option_copied, option_map};
 ghost use Rattle.std.specs.List.{list_all};
 ghost use Rattle.ck_base.specs.Told.{IsToldUnless};
-ghost use Rattle.http_front.specs.Users.{is_part, is_part_byte, is_environment, is_user, user_of_token, pieces_at, lines_of, parts_of, opening_of, pair_of, users_of, table_of, table_text, IsTable, IsNoTable};
+ghost use Rattle.http_front.specs.Users.{is_part, is_part_byte, is_environment, is_user, user_of_token, pieces_at, lines_of, parts_of, opening_of};
+ghost use Rattle.http_front.specs.Users.{pair_of, users_of, table_of, table_text, IsTable, IsNoTable};
 
 use crate::cuts::place_of;
+use crate::route::Routes;
 use ck_base::known::DEFAULT_OWNER;
 use ck_base::{Bytes, Items, NameFault, NoMemory, UserName, user_name};
 use std::alloc::{AllocError, AllocFailed, Global};
@@ -15,9 +17,11 @@ use std::marker::Model;
 const PART_BYTES: usize = 255;
 
 /// Who may call: the container and its environment, the API token, and each web token with the
-/// user that it stands for. It has no `Debug`, so that no token is printed.
+/// user that it stands for; and the paths that calls have, made ready. It has no `Debug`, so that no
+/// token is printed.
 #[derive(Drop)]
 pub struct Users {
+    routes: Routes,
     container: Bytes,
     environment: Bytes,
     api_token: Bytes,
@@ -75,6 +79,11 @@ impl From<NoMemory> for UsersFault {
 }
 
 impl Users {
+    /// The paths that calls have.
+    pub fn routes(&self) -> &Routes {
+        &self.routes
+    }
+
     /// The container that the server serves.
     pub fn container(&self) -> &[u8]
         ensures { result.now ≡ self.now.container }
@@ -122,6 +131,7 @@ pub fn read_users(alloc: Global, bytes: &[u8]) -> Result<Users, UsersFault>
         return Err(UsersFault::BadLine(1));
     };
     Ok(Users {
+        routes: Routes::new(alloc)?,
         container: Bytes::from_slice(alloc, container)?,
         environment: Bytes::from_slice(alloc, environment)?,
         api_token: Bytes::from_slice(alloc, api_token)?,

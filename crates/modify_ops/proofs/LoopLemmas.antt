@@ -2,7 +2,7 @@
 use Rattle.std.proofs.Common.{◌≡◌, ℕ, suc, ◌+◌, ◌<◌, ◌≤◌, List, [], ◌∷◌, ◌++◌, length, take, drop, get_or, map, None, Some, refl, sym, ap, ◌∙◌, append_assoc, arith}
 use Rattle.std.specs.Prelude.{Result, Ok, Err, ok_or}
 use Rattle.std.specs.Option.{option_or}
-use Rattle.std.proofs.lemmas.List.{drop_more, take_more, drop_all}
+use Rattle.std.proofs.lemmas.List.{drop_more, take_more, drop_all, length-append}
 use Rattle.serde_json.specs.View.{view}
 use Rattle.serde_json.specs.declared.value.Value.{Value as Json}
 use Rattle.ck_base.specs.declared.key.ZoneKey.{ZoneKey}
@@ -11,7 +11,7 @@ use Rattle.zone_model.specs.declared.operations.Op.{Op}
 use Rattle.modify_ops.specs.declared.fault.BadOps.{BadOps}
 use Rattle.modify_ops.specs.declared.fault.BadOps.TheVariants.{BadOp}
 use Rattle.modify_ops.specs.Forms.{op_of, ops_from}
-use Rattle.modify_ops.specs.Names.{again, first_again, named_again}
+use Rattle.zone_model.specs.GivenNames.{again, first_again, named_again}
 
 -- ---- names that come again
 
@@ -34,6 +34,13 @@ pub never_again : (ops : List Op) (i : ℕ) → length ops ≤ i → named_again
 never_again ops i past so_far = so_far ∙ ap (first_again (take i ops)) (drop_all i ops past)
 
 -- ---- reading one after another
+
+-- with one more there are as many as were looked at
+pub one_longer : (items : List Json) (i : ℕ) (item : Json) (done more : List Op) (op : Op) → i < length items → more ≡ done ++ op ∷ [] → length done ≡ length (take i items)
+    → length more ≡ length (take (i + 1) items)
+one_longer items i item done more op within pushed so_far =
+    let longer : length (take (i + 1) items) ≡ length (take i items) + 1 = ap length (take_more items i item within) ∙ length-append (take i items) (get_or items i item ∷ []) in
+    omega (arith, ap length pushed, length-append done (op ∷ []), so_far, longer)
 
 behind_more : {E : Type 0} (done : List Op) (op : Op) (rest : Result (List Op) E)
     → result_map (λ ops. done ++ ops) (result_and_then (λ ops. Ok (op ∷ ops)) rest) ≡ result_map (λ ops. (done ++ op ∷ []) ++ ops) rest

@@ -9,7 +9,8 @@ use Rattle.zone_model.specs.declared.operations.Op.{Op}
 use Rattle.modify_ops.specs.declared.fault.BadOps.{BadOps}
 use Rattle.modify_ops.specs.declared.fault.BadOps.TheVariants.{TooMany, BadOp, Twice}
 use Rattle.modify_ops.specs.Forms.{ops_from}
-use Rattle.modify_ops.specs.Names.{named_again}
+use Rattle.zone_model.specs.Limits.{most_items}
+use Rattle.zone_model.specs.GivenNames.{named_again}
 
 -- the operations, where none names a record or a root again
 abbrev pub unless_again : List Op → Option (List ℕ) → Result (List Op) BadOps
@@ -32,7 +33,7 @@ module _ (here : ZoneKey) (caller : List ℕ) where
   -- at most 200, then each is one, then none names a record or a root again
   abbrev pub within : List Data → Result (List Op) BadOps
   within ds =
-      if nat_lt 200 (length ds) then Err (TooMany (length ds))
+      if nat_lt most_items (length ds) then Err (TooMany (length ds))
       else (do
         ops ← ops_from here caller 0 ds
         distinct ops)

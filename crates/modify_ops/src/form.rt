@@ -1,5 +1,5 @@
 // Reading operations, each by itself.
-ghost use Rattle.std.specs.Prelude.{◌≡◌, Some, IfOk, IfSome, IsUtf8, map, ok_or, option_map};
+ghost use Rattle.std.specs.Prelude.{◌≡◌, Some, IfOk, IfSome, IsUtf8, length, map, ok_or, option_map};
 ghost use Rattle.std.specs.Result.{result_ok};
 ghost use Rattle.std.specs.List.{AllByRecursion};
 ghost use Rattle.serde_json.specs.View.{view};
@@ -157,6 +157,7 @@ pub(crate) fn read_each(
 ) -> Result<Ops, BadOps>
     ensures ops { IsToldUnless BadOps.NoMemory result
         (ops_from here.now caller.now 0 (map view items.now)) }
+    ensures count { IfOk result (λ ops. length ops ≡ length items.now) }
     ensures meant { IfOk result (AllByRecursion IsMeantOp) }
 {
     let mut ops = Vec::new(alloc);

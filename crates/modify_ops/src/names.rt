@@ -1,7 +1,7 @@
 // Whether operations name a record or a root again.
 ghost use Rattle.std.specs.Prelude.{◌≡◌, option_map};
 ghost use Rattle.std.specs.List.{list_any};
-ghost use Rattle.modify_ops.specs.Names.{share_root_of, names_record, names_root, again, named_again};
+ghost use Rattle.zone_model.specs.GivenNames.{share_root_of, names_record, names_root, again, named_again};
 
 use crate::{Op, Ops};
 use ck_base::RecordName;

@@ -1,10 +1,10 @@
 // Reading the operations of a request.
-ghost use Rattle.std.specs.Prelude.{◌≡◌, IfOk, map};
-ghost use Rattle.std.specs.List.{AllByRecursion};
+ghost use Rattle.std.specs.Prelude.{◌≡◌, IfOk, map, None};
 ghost use Rattle.serde_json.specs.View.{view};
 ghost use Rattle.ck_base.specs.Told.{IsToldUnless};
 ghost use Rattle.modify_ops.specs.Reading.{distinct, within, ops_of};
-ghost use Rattle.zone_model.specs.OpForms.{IsMeantOp};
+ghost use Rattle.zone_model.specs.OpForms.{AreMeantOps};
+ghost use Rattle.zone_model.specs.GivenNames.{named_again};
 
 use crate::form::read_each;
 use crate::{BadOps, Ops, named_again};
@@ -16,6 +16,7 @@ use std::alloc::Global;
 fn distinct(ops: Ops) -> Result<Ops, BadOps>
     ensures ops { IsToldUnless BadOps.NoMemory result (distinct ops) }
     ensures same { IfOk result (λ kept. kept ≡ ops) }
+    ensures once { IfOk result (λ kept. named_again kept ≡ None) }
 {
     if let Some(name) = named_again(&ops) {
         return Err(BadOps::Twice(name.clone()?));
@@ -31,7 +32,7 @@ fn read_within(
 ) -> Result<Ops, BadOps>
     ensures ops { IsToldUnless BadOps.NoMemory result
         (within here.now caller.now (map view items.now)) }
-    ensures meant { IfOk result (AllByRecursion IsMeantOp) }
+    ensures meant { IfOk result AreMeantOps }
 {
     if items.len() > LIST_ITEMS {
         return Err(BadOps::TooMany(items.len() as u64));
@@ -51,7 +52,7 @@ pub fn read_ops(
     caller: &UserName,
 ) -> Result<Ops, BadOps>
     ensures ops { IsToldUnless BadOps.NoMemory result (ops_of here.now caller.now (view json.now)) }
-    ensures meant { IfOk result (AllByRecursion IsMeantOp) }
+    ensures meant { IfOk result AreMeantOps }
 {
     match json.as_array() {
         Some(items) => read_within(alloc, items, here, caller),

@@ -1,3 +1,5 @@
 pub mod OrderLemmas
 pub mod OrderProofs
 pub mod ValueInduction
+pub mod CountLemmas
+pub mod NameSetLemmas

@@ -4,7 +4,8 @@ use Rattle.std.specs.Prelude.{Bool, true, false, not}
 use Rattle.record_model.specs.declared.value.Value.{Value, out-Value}
 use Rattle.record_model.specs.declared.value.Value.TheOpen.{Value-F}
 use Rattle.record_model.specs.declared.comparator.Comparator.{Comparator}
-use Rattle.record_model.specs.declared.comparator.Comparator.TheVariants.{Equals, NotEquals, LessThan, LessThanOrEquals, GreaterThan, GreaterThanOrEquals, In, NotIn, BeginsWith, NotBeginsWith, ListContains, NotListContains, NotListContainsAny, ListContainsAll}
+use Rattle.record_model.specs.declared.comparator.Comparator.TheVariants.{Equals, NotEquals, LessThan, LessThanOrEquals, GreaterThan, GreaterThanOrEquals}
+use Rattle.record_model.specs.declared.comparator.Comparator.TheVariants.{In, NotIn, BeginsWith, NotBeginsWith, ListContains, NotListContains, NotListContainsAny, ListContainsAll}
 
 abbrev pub is_list_level : Value-F Value → Bool
 is_list_level (Value-F.Int64 n) = false

@@ -10,6 +10,8 @@ pub mod ValueOrder
 pub mod OrderLaws
 -- which value a filter may have with which comparator
 pub mod Fits
+-- what the counts of a stored layout hold
+pub mod Counts
 -- the form of a record that a zone keeps
 pub mod RecordForms
 -- the size of a record

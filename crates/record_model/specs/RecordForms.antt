@@ -1,5 +1,5 @@
 -- The form of the records that a zone keeps.
-use Rattle.std.specs.Prelude.{◌≡◌, ◌<◌, ◌^◌, ℕ, Bool, true, false, List, map, bytes_eq, IfSome}
+use Rattle.std.specs.Prelude.{◌≡◌, ◌<◌, ◌^◌, ℕ, Bool, true, false, List, length, map, bytes_eq, Option, None, Some, IfSome}
 use Rattle.std.specs.List.{AllByRecursion}
 use Rattle.ck_base.specs.Names.{IsName}
 use Rattle.ck_base.specs.KnownNames.{share_type}
@@ -7,6 +7,7 @@ use Rattle.ck_base.specs.Order.{are_ascending}
 use Rattle.ck_base.specs.Guids.{IsGuid}
 use Rattle.record_model.specs.declared.value.Value.{Value}
 use Rattle.record_model.specs.ValueForms.{IsMeant}
+use Rattle.record_model.specs.Counts.{fits_two_bytes, are_counted}
 use Rattle.share_records.specs.declared.permission.Permission.{Permission}
 use Rattle.share_records.specs.declared.participant.PartKind.{PartKind}
 use Rattle.share_records.specs.declared.participant.Participant.{Participant}
@@ -23,9 +24,12 @@ pub record IsStamp (s : Stamp) : Type 0 where
 abbrev pub IsField : List ℕ × Value → Type 0
 IsField field = IsName field.0 × IsMeant field.1
 
--- each has its form, and their names ascend
+-- each has its form, their names ascend, and all can be counted
 abbrev pub AreFields : List (List ℕ × Value) → Type 0
-AreFields fields = AllByRecursion IsField fields × (are_ascending (map (λ (field : List ℕ × Value). field.0) fields) ≡ true)
+AreFields fields =
+    AllByRecursion IsField fields
+    × (are_ascending (map (λ (field : List ℕ × Value). field.0) fields) ≡ true)
+    × (are_counted fields ≡ true)
 
 -- whom the owner named may do something at least; who came by an open share has accepted it, and no permission of their own
 abbrev pub is_kept : PartKind → Permission → Bool → Bool
@@ -42,9 +46,12 @@ keeps p = is_kept p.kind p.permission p.accepted
 abbrev pub IsParticipant : Participant → Type 0
 IsParticipant p = IsName p.user × (keeps p ≡ true)
 
--- each has its form, and their names ascend
+-- each has its form, their names ascend, and they can be counted
 abbrev pub AreParticipants : List Participant → Type 0
-AreParticipants ps = AllByRecursion IsParticipant ps × (are_ascending (map (λ (p : Participant). p.user) ps) ≡ true)
+AreParticipants ps =
+    AllByRecursion IsParticipant ps
+    × (are_ascending (map (λ (p : Participant). p.user) ps) ≡ true)
+    × (fits_two_bytes (length ps) ≡ true)
 
 pub record IsShare (s : ShareOf) : Type 0 where
   pub root : IsName s.root
@@ -59,6 +66,11 @@ is_share_type rtype = bytes_eq rtype share_type
 abbrev pub IsBodyOf : List ℕ → Body → Type 0
 IsBodyOf rtype Plain = is_share_type rtype ≡ false
 IsBodyOf rtype (Share s) = (is_share_type rtype ≡ true) × IsShare s
+
+-- the share that a record is, if it is one
+abbrev pub share_in : Body → Option ShareOf
+share_in Plain = None
+share_in (Share s) = Some s
 
 -- a record in the form in which a zone keeps it
 pub record IsStored (r : Record) : Type 0 where

@@ -4,6 +4,7 @@
 #![tactic(auto)]
 
 mod comparator;
+mod counts;
 mod cutting;
 mod draft;
 mod filter;
@@ -20,6 +21,7 @@ mod value_sizes;
 mod view;
 
 pub use comparator::{Comparator, fits};
+pub use counts::{are_counted, fits_two_bytes};
 pub use cutting::cut;
 pub use draft::{Draft, ForRoot, ParentWish, WantedList, Wish, Wishes};
 pub use filter::{Filter, Filters};

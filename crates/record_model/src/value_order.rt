@@ -93,7 +93,7 @@ fn number(value: &Value) -> i64
     }
 }
 
-fn bytes(value: &Value) -> &[u8]
+pub(crate) fn bytes(value: &Value) -> &[u8]
     ensures { result.now ≡ bytes_part (out-Value value.now) }
 {
     match value {

@@ -1,19 +1,20 @@
 -- What stays as it is while histories grow.
 use Rattle.std.proofs.Common.{◌≡◌, ℕ, suc, ◌-◌, ◌≤◌, ◌&&◌, ◌==◌, Bool, true, false, List, [], ◌∷◌, ◌++◌, length, take, drop, refl, sym, ap, subst, ◌∙◌, arith, append_assoc, length-append, Option}
 use Rattle.std.specs.Prelude.{if◌then◌else◌}
-use Rattle.std.specs.List.{AllByRecursion, AllZip}
+use Rattle.std.specs.List.{AllByRecursion}
 use Rattle.std.proofs.lemmas.List.{take-append-le, append-nil}
 use Rattle.std.proofs.lemmas.Bool.{eqb-true}
 use Rattle.zone_model.specs.declared.events.Event.{Event}
 use Rattle.zone_model.specs.Histories.{Histories, IsFront, Grows}
+use Rattle.board_model.specs.declared.answers.Answer.{Answer}
 use Rattle.board_model.specs.Asks.{sight, answer, made, makes, commits_by}
 use Rattle.talk_model.specs.declared.marks.At.{At}
 use Rattle.talk_model.specs.declared.marks.Mark.{Mark}
 use Rattle.talk_model.specs.Requests.{Meaning}
 use Rattle.talk_model.specs.Given.{given_of}
-use Rattle.talk_model.specs.Calls.{Ask, asks_of, reply_of}
-use Rattle.talk_model.specs.Marks.{SeatsStay, base_of, IsAtOf, IsMarkOf, AreMarksOf, marked_by, marked}
-use Rattle.talk_model.specs.Talk.{answers_at, talk}
+use Rattle.talk_model.specs.Calls.{Ask, Step, asks, replies, step_for, text_at, IsReply}
+use Rattle.talk_model.specs.Marks.{SeatsStay, base_of, answer_at, step_at, IsAtOf, AreAtsOf, step_behind, IsMarkOf, AreMarksOf, marked_by, marked}
+use Rattle.talk_model.specs.Talk.{talk}
 
 pub front_on : {E : Type 0} (xs ys zs : List E) → IsFront xs ys → IsFront ys zs → IsFront xs zs
 front_on xs ys zs p q = record { more = p.more ++ q.more; grown = rw (q.grown, p.grown) (append_assoc xs p.more q.more) }
@@ -34,7 +35,7 @@ module _ (old new : ℕ → Option ℕ) (entry h now : Histories Event) (grown :
   base-grown : (at : At) → at.len ≤ length (h at.lock) → base_of now at ≡ base_of h at
   base-grown at le = front-take _ (h at.lock) (now at.lock) (grown at.lock) (omega arith)
 
-  at-grown : (at : At) (a : Ask) → IsAtOf old entry h at a → IsAtOf new entry now at a
+  pub at-grown : (at : At) (a : Ask) → IsAtOf old entry h at a → IsAtOf new entry now at a
   at-grown at a k =
       let same = base-grown at k.within in
       record {
@@ -44,40 +45,45 @@ module _ (old new : ℕ → Option ℕ) (entry h now : Histories Event) (grown :
         since_entry = k.since_entry;
         past_entry = k.past_entry;
         within = omega (arith, k.within, front-length (h at.lock) (now at.lock) (grown at.lock));
-        event = k.event ∙ ap (λ (b : List Event). makes (commits_by b a.part)) (sym same);
-        event_is = front-take at.len (h at.lock) (now at.lock) (grown at.lock) k.within ∙ (k.event_is ∙ ap (λ (b : List Event). b ++ made k.seat b a.part) (sym same));
+        event = k.event ∙ ap (λ (b : List Event). makes (commits_by a.lock b a.part)) (sym same);
+        event_is = front-take at.len (h at.lock) (now at.lock) (grown at.lock) k.within ∙ (k.event_is ∙ ap (λ (b : List Event). b ++ made a.lock k.seat b a.part) (sym same));
       }
 
-  ats-grown : (ats : List At) (askeds : List Ask) → AllZip (IsAtOf old entry h) ats askeds → AllZip (IsAtOf new entry now) ats askeds
-  ats-grown [] [] k = tt
-  ats-grown [] (a ∷ askeds) k = k
-  ats-grown (at ∷ ats) [] k = k
-  ats-grown (at ∷ ats) (a ∷ askeds) k = (at-grown at a k.0, ats-grown ats askeds k.1)
+  pub answer-grown : (at : At) (a : Ask) → at.len ≤ length (h at.lock) → answer_at now at a ≡ answer_at h at a
+  answer-grown at a le = ap (λ (b : List Event). answer a.lock (sight a.lock b a.part) a.part) (base-grown at le)
 
-  mark-grown : (number : ℕ) (m : Mark) (w : Meaning) → IsMarkOf old number entry h m w → IsMarkOf new number entry now m w
-  mark-grown number m w k = record { request = k.request; words = k.words; asks = ats-grown m.asks.items (asks_of w (given_of m)) k.asks }
+  pub ats-grown : (ats : List At) (step : Step) → AreAtsOf old entry h ats step → AreAtsOf new entry now ats step
+  ats-grown [] step k = tt
+  ats-grown (at ∷ ats) (asks a next) k = (
+    at-grown at a k.0,
+    subst (λ (x : Answer). AreAtsOf new entry now ats (next x)) (sym (answer-grown at a (k.0).within)) (ats-grown ats (next (answer_at h at a)) k.1),
+  )
+  ats-grown (at ∷ ats) (replies r) k = absurd k
+
+  pub step-grown : (ats : List At) (step : Step) → AreAtsOf old entry h ats step → step_at now ats step ≡ step_at h ats step
+  step-grown [] step k = refl
+  step-grown (at ∷ ats) (asks a next) k = ap (λ (x : Answer). step_at now ats (next x)) (answer-grown at a (k.0).within) ∙ step-grown ats (next (answer_at h at a)) k.1
+  step-grown (at ∷ ats) (replies r) k = absurd k
+
+  pub mark-grown : (number : ℕ) (m : Mark) (w : Meaning) → IsMarkOf old number entry h m w → IsMarkOf new number entry now m w
+  mark-grown number m w k = record { request = k.request; words = k.words; asks = ats-grown m.asks.items (step_for w.want (given_of m)) k.asks }
+
+  pub behind-grown : (number : ℕ) (m : Mark) (w : Meaning) → IsMarkOf old number entry h m w → step_behind now m w ≡ step_behind h m w
+  behind-grown number m w k = step-grown m.asks.items (step_for w.want (given_of m)) k.asks
 
   pub marks-grown : (number : ℕ) (marks : List Mark) (ws : List Meaning) → AreMarksOf old number entry h marks ws → AreMarksOf new number entry now marks ws
   marks-grown number [] [] k = tt
   marks-grown number [] (w ∷ ws) k = k
   marks-grown number (m ∷ marks) [] k = k
-  marks-grown number (m ∷ marks) (w ∷ ws) k = (mark-grown number m w k.0, marks-grown (suc number) marks ws k.1)
-
-  answers-grown : (ats : List At) (askeds : List Ask) → AllZip (IsAtOf old entry h) ats askeds → answers_at now ats askeds ≡ answers_at h ats askeds
-  answers-grown [] [] k = refl
-  answers-grown [] (a ∷ askeds) k = refl
-  answers-grown (at ∷ ats) [] k = refl
-  answers-grown (at ∷ ats) (a ∷ askeds) k =
-      let same = base-grown at (k.0).within in
-      λ i. answer (sight (same i) a.part) a.part ∷ answers-grown ats askeds k.1 i
+  marks-grown number (m ∷ marks) (w ∷ ws) k = (mark-grown number m w k.0, subst IsReply (sym (behind-grown number m w k.0)) k.1, marks-grown (suc number) marks ws k.2)
 
   pub talk-grown : (number : ℕ) (marks : List Mark) (ws : List Meaning) → AreMarksOf old number entry h marks ws → talk ws marks now ≡ talk ws marks h
   talk-grown number [] [] k = refl
   talk-grown number [] (w ∷ ws) k = refl
   talk-grown number (m ∷ marks) [] k = refl
   talk-grown number (m ∷ marks) (w ∷ ws) k =
-      let same = answers-grown m.asks.items (asks_of w (given_of m)) (k.0).asks in
-      λ i. reply_of w (given_of m) (same i) ++ talk-grown (suc number) marks ws k.1 i
+      let same = behind-grown number m w k.0 in
+      λ i. text_at w.close (same i) ++ talk-grown (suc number) marks ws k.2 i
 
   one-grown : (lock : ℕ) (at : At) → at.len ≤ length (h at.lock) → marked_by lock (now lock) at ≡ marked_by lock (h lock) at
   one-grown lock at le = by_lock (at.lock == lock) refl

@@ -1,37 +1,48 @@
 -- The single-client run: the replies of a board that nobody else asks, and the histories that it leaves, by the histories at
 -- first, the requests, and what the clock and the words gave, alone. Each ask is taken at the whole history as it stands. Such a board writes as seat 0.
-use Rattle.std.specs.Prelude.{ℕ, ◌==◌, List, [], ◌∷◌, ◌++◌, if◌then◌else◌}
+use Rattle.std.specs.Prelude.{ℕ, zero, suc, ◌==◌, List, [], ◌∷◌, ◌++◌, if◌then◌else◌}
 use Rattle.zone_model.specs.declared.events.Event.{Event}
 use Rattle.zone_model.specs.Histories.{Histories}
 use Rattle.board_model.specs.declared.answers.Answer.{Answer}
 use Rattle.board_model.specs.Asks.{sight, answer, made}
+use Rattle.wire_calls.specs.declared.reply.Reply.{Reply}
 use Rattle.talk_model.specs.Requests.{Meaning}
 use Rattle.talk_model.specs.Given.{Given}
-use Rattle.talk_model.specs.Calls.{Ask, asks_of, reply_of}
+use Rattle.talk_model.specs.Calls.{Ask, Step, asks, replies, step_for, text_of}
 
--- the histories after an ask
+-- the answer to an ask, and the histories after it
+abbrev pub answer_alone : Histories Event → Ask → Answer
+answer_alone h a = answer a.lock (sight a.lock (h a.lock) a.part) a.part
+
 abbrev pub after_ask : Histories Event → Ask → Histories Event
-after_ask h a lock = if lock == a.lock then h lock ++ made 0 (h lock) a.part else h lock
+after_ask h a lock = if lock == a.lock then h lock ++ made lock 0 (h lock) a.part else h lock
 
--- the histories after asks, one after another
-abbrev pub after_asks : Histories Event → List Ask → Histories Event
-after_asks h [] = h
-after_asks h (a ∷ askeds) = after_asks (after_ask h a) askeds
+-- the histories after so many asks of a step
+abbrev pub after_asks : ℕ → Histories Event → Step → Histories Event
+after_asks zero h step = h
+after_asks (suc n) h (asks a next) = after_asks n (after_ask h a) (next (answer_alone h a))
+after_asks (suc n) h (replies r) = h
 
--- the answers to asks, one after another
-abbrev pub answers_alone : Histories Event → List Ask → List Answer
-answers_alone h [] = []
-answers_alone h (a ∷ askeds) = answer (sight (h a.lock) a.part) a.part ∷ answers_alone (after_ask h a) askeds
+-- the histories after all of them, and the reply
+abbrev pub after_step : Step → Histories Event → Histories Event
+after_step (asks a next) h = after_step (next (answer_alone h a)) (after_ask h a)
+after_step (replies r) h = h
+
+abbrev pub reply_alone : Step → Histories Event → Reply
+reply_alone (asks a next) h = reply_alone (next (answer_alone h a)) (after_ask h a)
+reply_alone (replies r) h = r
 
 -- the histories after requests for which these were given
 abbrev pub after_all : Histories Event → List Meaning → List Given → Histories Event
 after_all h [] given = h
 after_all h (w ∷ ws) [] = h
-after_all h (w ∷ ws) (g ∷ given) = after_all (after_asks h (asks_of w g)) ws given
+after_all h (w ∷ ws) (g ∷ given) = after_all (after_step (step_for w.want g) h) ws given
 
--- the replies to them
+-- the reply to a request for which this was given, and to requests one after another
+abbrev pub text_alone : Histories Event → Meaning → Given → List ℕ
+text_alone h w g = text_of w.close (reply_alone (step_for w.want g) h)
+
 abbrev pub alone_text : Histories Event → List Meaning → List Given → List ℕ
 alone_text h [] given = []
 alone_text h (w ∷ ws) [] = []
-alone_text h (w ∷ ws) (g ∷ given) =
-    reply_of w g (answers_alone h (asks_of w g)) ++ alone_text (after_asks h (asks_of w g)) ws given
+alone_text h (w ∷ ws) (g ∷ given) = text_alone h w g ++ alone_text (after_step (step_for w.want g) h) ws given

@@ -1,5 +1,5 @@
 -- What a request asks of the locks, and what is replied, given the answers.
-use Rattle.std.specs.Prelude.{ℕ, Bool, List, [], ◌∷◌, map, zip, Option, None, Some, if◌then◌else◌}
+use Rattle.std.specs.Prelude.{ℕ, Bool, List, [], map, zip, Option, None, Some, if◌then◌else◌, ⊤}
 use Rattle.serde_json.specs.Written.{compact_text}
 use Rattle.ck_base.specs.Names.{lock_of_names}
 use Rattle.ck_base.specs.declared.key.ZoneKey.{ZoneKey}
@@ -32,44 +32,19 @@ use Rattle.wire_calls.specs.Replies.{reply_data, reply_status}
 use Rattle.http_front.specs.Replies.{reply_text}
 use Rattle.talk_model.specs.declared.wants.Want.{Want}
 use Rattle.talk_model.specs.declared.wants.Want.TheVariants.{Refused as RefusedWant, Called}
-use Rattle.talk_model.specs.Requests.{Meaning}
 use Rattle.talk_model.specs.Given.{Given}
-
--- ---- what is asked
 
 -- a part, and the lock that is asked
 pub record Ask : Type 0 where
   pub lock : ℕ
   pub part : Part
 
--- the lock of a zone
-abbrev pub lock_of_zone : ZoneKey → ℕ
-lock_of_zone key = lock_of_names key.owner key.zone
+-- What is to be done for a request: a lock is asked, and its answer tells what comes next; or there is a reply.
+pub data Step : Type 0 where
+  asks : Ask → (Answer → Step) → Step
+  replies : Reply → Step
 
--- the scope of a database; the public one has calls on share links alone, whose answers do not depend on it
-abbrev pub scope_of : Database → Scope
-scope_of Private = scope.Private
-scope_of Shared = scope.Shared
-scope_of Public = scope.Private
-
--- what a call asks
-abbrev pub part_of : Call → Given → Part
-part_of (Modify c) g = part.Modify c.caller (scope_of c.database) c.zone c.atomic c.ops g.moment g.words
-part_of (Lookup c) g = part.Lookup c.caller (scope_of c.database) c.zone c.names
-
-abbrev pub zone_of : Call → ZoneKey
-zone_of (Modify c) = c.zone
-zone_of (Lookup c) = c.zone
-
--- what is asked for a request: nothing where it is refused, or a draw failed
-abbrev pub asks_by : Want → Given → List Ask
-asks_by (RefusedWant error) g = []
-asks_by (Called call) g = if g.drawn then record { lock = lock_of_zone (zone_of call); part = part_of call g } ∷ [] else []
-
-abbrev pub asks_of : Meaning → Given → List Ask
-asks_of w g = asks_by w.want g
-
--- ---- what is replied
+-- ---- the entries of replies
 
 -- the error that tells a fault
 abbrev pub error_of : OpFault → ServerError
@@ -98,34 +73,62 @@ abbrev pub found_entry : Option (List (List ℕ)) → List ℕ × Option Record 
 found_entry keys (name, None) = Failed NotFound name
 found_entry keys (name, Some r) = There (shown keys r)
 
-abbrev pub modify_reply : ModifyCall → Given → List Answer → Reply
-modify_reply c g (answer.Modify outcomes ∷ []) = ModifyReply (record {
+-- ---- calls
+
+-- the lock of a zone
+abbrev pub lock_of_zone : ZoneKey → ℕ
+lock_of_zone key = lock_of_names key.owner key.zone
+
+-- the scope of a database; the public one has calls on share links alone, whose answers do not depend on it
+abbrev pub scope_of : Database → Scope
+scope_of Private = scope.Private
+scope_of Shared = scope.Shared
+scope_of Public = scope.Private
+
+-- a lock has but answers that fit what it was asked; of the others the reply is that there is no such zone
+abbrev pub modify_reply : ModifyCall → Given → Answer → Reply
+modify_reply c g (answer.Modify outcomes) = ModifyReply (record {
   zone = c.zone;
   numbers_as_strings = c.numbers_as_strings;
   entries = map entry_of (zip (names_of c.ops g.words) outcomes);
 })
-modify_reply c g answers = Refused ZoneNotFound
+modify_reply c g (answer.Lookup records) = Refused ZoneNotFound
+modify_reply c g answer.NoZone = Refused ZoneNotFound
 
-abbrev pub lookup_reply : LookupCall → List Answer → Reply
-lookup_reply c (answer.Lookup records ∷ []) = LookupReply (record {
+abbrev pub lookup_reply : LookupCall → Answer → Reply
+lookup_reply c (answer.Modify outcomes) = Refused ZoneNotFound
+lookup_reply c (answer.Lookup records) = LookupReply (record {
   zone = c.zone;
   numbers_as_strings = c.numbers_as_strings;
   entries = map (found_entry c.desired_keys) (zip c.names records);
 })
-lookup_reply c answers = Refused ZoneNotFound
+lookup_reply c answer.NoZone = Refused ZoneNotFound
 
--- a call has one answer, which may be that there is no such zone
-abbrev pub reply_to : Call → Given → List Answer → Reply
-reply_to (Modify c) g answers = modify_reply c g answers
-reply_to (Lookup c) g answers = lookup_reply c answers
+-- what is to be done for a call
+abbrev pub step_of : Call → Given → Step
+step_of (Modify c) g = asks
+    (record { lock = lock_of_zone c.zone; part = part.Modify c.caller (scope_of c.database) c.zone c.atomic c.ops g.moment g.words })
+    (λ answer. replies (modify_reply c g answer))
+step_of (Lookup c) g = asks
+    (record { lock = lock_of_zone c.zone; part = part.Lookup c.caller (scope_of c.database) c.zone c.names })
+    (λ answer. replies (lookup_reply c answer))
 
-abbrev pub reply_for : Want → Given → List Answer → Reply
-reply_for (RefusedWant error) g answers = Refused error
-reply_for (Called call) g answers = if g.drawn then reply_to call g answers else Refused TryAgainLater
+-- what is to be done for a request: nothing is asked where it is refused, or a draw failed
+abbrev pub step_for : Want → Given → Step
+step_for (RefusedWant error) g = replies (Refused error)
+step_for (Called call) g = if g.drawn then step_of call g else replies (Refused TryAgainLater)
 
--- the bytes of a reply
+-- ---- bytes
+
 abbrev pub text_of : Bool → Reply → List ℕ
 text_of close r = reply_text (reply_status r) (compact_text (reply_data r)) close
 
-abbrev pub reply_of : Meaning → Given → List Answer → List ℕ
-reply_of w g answers = text_of w.close (reply_for w.want g answers)
+-- what is written at a step: its reply, and nothing while there is something to ask
+abbrev pub text_at : Bool → Step → List ℕ
+text_at close (asks a next) = []
+text_at close (replies r) = text_of close r
+
+-- there is nothing more to ask
+abbrev pub IsReply : Step → Type 0
+IsReply (asks a next) = ⊥
+IsReply (replies r) = ⊤

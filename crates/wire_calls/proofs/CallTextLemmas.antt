@@ -1,11 +1,11 @@
 -- The text of a call tells it exactly.
-use Rattle.std.proofs.Common.{◌≡◌, ℕ, ◌≤◌, Bool, true, false, List, [], ◌∷◌, map, Option, None, Some, option_map, refl, sym, subst, arith}
+use Rattle.std.proofs.Common.{◌≡◌, ℕ, ◌≤◌, Bool, true, false, List, [], ◌∷◌, map, Option, None, Some, option_map, refl, sym, ap, subst, ◌∙◌, arith}
 use Rattle.std.specs.Prelude.{IfSome, if◌then◌else◌}
 use Rattle.std.specs.List.{AllByRecursion}
 use Rattle.std.proofs.lemmas.Bool.{or_from}
-use Rattle.serde_json.specs.Data.{string, items_depth}
+use Rattle.serde_json.specs.Data.{Data, string, items_depth}
 use Rattle.serde_json.specs.View.{items_of}
-use Rattle.serde_json.specs.Written.{items_have_float}
+use Rattle.serde_json.specs.Written.{has_float, items_have_float, compact_text}
 use Rattle.ck_base.specs.declared.key.ZoneKey.{ZoneKey}
 use Rattle.field_values.specs.Exact.{IsExact}
 use Rattle.record_model.specs.declared.draft.Draft.{Draft}
@@ -13,6 +13,7 @@ use Rattle.record_model.specs.DraftForms.{IsMeantDraft}
 use Rattle.ck_records.specs.Writing.{named_data}
 use Rattle.ck_records.proofs.DraftFlatLemmas.{drafts_flat}
 use Rattle.ck_records.proofs.FlatLemmas.{Flat, present_flat}
+use Rattle.ck_records.proofs.WholeLemmas.{present_whole, map_whole, drafts_whole}
 use Rattle.zone_model.specs.declared.operations.Op.{Op}
 use Rattle.zone_model.specs.Requests.{is_deletion}
 use Rattle.zone_model.specs.OpForms.{bare}
@@ -21,11 +22,12 @@ use Rattle.modify_ops.specs.Writing.{op_data, ops_data}
 use Rattle.ck_base.specs.KnownNames.{is_own_default}
 use Rattle.wire_calls.specs.declared.call.ModifyCall.{ModifyCall}
 use Rattle.wire_calls.specs.declared.call.LookupCall.{LookupCall}
+use Rattle.wire_calls.specs.declared.call.Call.{Call}
 use Rattle.wire_calls.specs.declared.call.Call.TheVariants.{Modify, Lookup}
-use Rattle.wire_calls.specs.CallWriting.{flag_data, zone_given, names_data, records_data, modify_data, lookup_data}
+use Rattle.wire_calls.specs.CallWriting.{flag_data, zone_given, names_data, records_data, modify_data, lookup_data, call_data}
 use Rattle.wire_calls.specs.Meant.{IsMeantModify}
 use Rattle.wire_calls.specs.CallTexts.{CallsAreExact}
-use Rattle.wire_calls.specs.Zones.{zone_data}
+use Rattle.field_values.specs.ZoneIds.{zone_data}
 use Rattle.wire_calls.proofs.ReadsBackLemmas.{modify_table, lookup_table}
 
 -- ---- operations
@@ -96,7 +98,7 @@ records_flat names = record { whole = records_whole names; shallow = omega (arit
 
 modify_exact : (c : ModifyCall) → IsMeantModify c → IsExact (modify_data c)
 modify_exact c is =
-    let flat = present_flat 7 (modify_table c) (flag_flat true c.atomic, (flag_flat false c.numbers_as_strings, (ops_flat c.ops is.ops, (zone_flat c.caller c.zone, tt)))) in
+    let flat = present_flat 7 (modify_table c) (flag_flat true c.atomic, (flag_flat false c.numbers_as_strings, (ops_flat c.ops is.ops.meant, (zone_flat c.caller c.zone, tt)))) in
     record { whole = flat.whole; shallow = omega (arith, flat.shallow) }
 
 lookup_exact : (c : LookupCall) → IsExact (lookup_data c)
@@ -107,3 +109,32 @@ lookup_exact c =
 pub calls_exact : CallsAreExact
 calls_exact (Modify c) is = modify_exact c is
 calls_exact (Lookup c) is = lookup_exact c
+
+-- ---- no JSON of a call has a float
+
+any_ops_whole : (ops : List Op) → items_have_float (items_of (map op_data ops)) ≡ false
+any_ops_whole [] = refl
+any_ops_whole (op ∷ ops) = or_from _ _ (or_from _ _ (drafts_whole op.draft) refl) (any_ops_whole ops)
+
+flag_whole : (default flag : Bool) → IfSome (flag_data default flag) (λ d. has_float d ≡ false)
+flag_whole true true = tt
+flag_whole true false = refl
+flag_whole false true = refl
+flag_whole false false = tt
+
+zone_whole : (caller : List ℕ) (key : ZoneKey) → IfSome (zone_given caller key) (λ d. has_float d ≡ false)
+zone_whole caller key = by (is_own_default caller key) where
+  by : (b : Bool) → IfSome (if b then None else Some (zone_data key)) (λ d. has_float d ≡ false)
+  by true = tt
+  by false = refl
+
+call_whole : (c : Call) → has_float (call_data c) ≡ false
+call_whole (Modify c) =
+    present_whole (modify_table c) (flag_whole true c.atomic, (flag_whole false c.numbers_as_strings, (any_ops_whole c.ops, (zone_whole c.caller c.zone, tt))))
+call_whole (Lookup c) =
+    present_whole (lookup_table c)
+    (map_whole names_data c.desired_keys names_whole, (flag_whole false c.numbers_as_strings, (records_whole c.names, (zone_whole c.caller c.zone, tt))))
+
+-- the text that is written is that of the call's JSON
+pub text_is : (c : Call) (text : List ℕ) (d : Data) → d ≡ call_data c → (has_float d ≡ false → text ≡ compact_text d) → text ≡ compact_text (call_data c)
+text_is c text d is writes = writes (ap has_float is ∙ call_whole c) ∙ ap compact_text is

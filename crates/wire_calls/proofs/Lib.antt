@@ -4,6 +4,8 @@ pub mod ReadsBackLemmas
 pub mod EntryLemmas
 -- reading replies
 pub mod ReplyLemmas
+-- what is read of the text of a list
+pub mod ListTextLemmas
 -- the text of a reply tells it exactly
 pub mod ReplyTextLemmas
 -- which call the bytes of a body mean

@@ -4,7 +4,6 @@ use Rattle.std.specs.Prelude.{Result, Ok, Err, IfOk, OnOk, IsUtf8, is_some, if�
 use Rattle.serde_json.specs.Data.{Data, depth}
 use Rattle.serde_json.specs.Find.{as_object}
 use Rattle.serde_json.specs.Read.{read, max_depth}
-use Rattle.serde_json.specs.Written.{has_float, compact_text}
 use Rattle.ck_base.specs.Told.{IsToldUnless}
 use Rattle.ck_base.specs.declared.route.Route.{Route}
 use Rattle.wire_calls.specs.declared.call.Call.{Call}
@@ -49,6 +48,3 @@ text_means c text d is utf8 reads meant =
     let shallow : depth d ≤ max_depth = subst (λ e. depth e ≤ max_depth) (sym is) (calls_exact c meant).shallow in
     let json : IsJson text (call_data c) = record { text = utf8; reads = reads shallow ∙ ap Some is } in
     meant_by (route_of c) (caller_of c) text (call_data c) c json (calls_read_back c meant)
-
-pub text_is : (c : Call) (text : List ℕ) (d : Data) → d ≡ call_data c → (has_float d ≡ false → text ≡ compact_text d) → IsMeantCall c → text ≡ compact_text (call_data c)
-text_is c text d is writes meant = writes (ap has_float is ∙ (calls_exact c meant).whole) ∙ ap compact_text is

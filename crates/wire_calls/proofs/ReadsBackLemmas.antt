@@ -17,21 +17,23 @@ use Rattle.ck_records.proofs.ReadsBackLemmas.{name_told, there}
 use Rattle.zone_model.specs.declared.operations.Op.{Op}
 use Rattle.modify_ops.specs.Writing.{ops_data}
 use Rattle.zone_model.specs.OpForms.{IsMeantOp}
-use Rattle.modify_ops.specs.Names.{named_again}
+use Rattle.zone_model.specs.Limits.{most_items}
+use Rattle.zone_model.specs.GivenNames.{named_again}
 use Rattle.modify_ops.proofs.ReadsBackLemmas.{ops_read_back}
 use Rattle.ck_base.specs.KnownNames.{default_zone, own_default, is_own_default}
 use Rattle.wire_calls.specs.declared.call.ModifyCall.{ModifyCall}
 use Rattle.wire_calls.specs.declared.call.LookupCall.{LookupCall}
 use Rattle.wire_calls.specs.declared.call.Call.TheVariants.{Modify, Lookup}
-use Rattle.wire_calls.specs.declared.lists.Listed.TheVariants.{Texts, Objects}
+use Rattle.wire_calls.specs.declared.lists.Listed.TheVariants.{FieldNames, RecordsByName}
 use Rattle.wire_calls.specs.declared.fault.CallKey.{CallKey}
 use Rattle.wire_calls.specs.declared.fault.CallKey.TheVariants.{Atomic, NumbersAsStrings}
 use Rattle.wire_calls.specs.declared.fault.BadCall.{BadCall}
-use Rattle.wire_calls.specs.Zones.{zone_in, zone_at, zone_data}
+use Rattle.field_values.specs.ZoneIds.{zone_in, zone_data, IsMeantZone}
+use Rattle.wire_calls.specs.Zones.{zone_at}
 use Rattle.wire_calls.specs.Members.{flag_at, name_as, keys_at, records_at, limited, limited_if}
 use Rattle.wire_calls.specs.Calls.{ops_at, checked, modify_of, lookup_of}
 use Rattle.wire_calls.specs.CallWriting.{flag_data, zone_given, names_data, records_data, modify_data, lookup_data}
-use Rattle.wire_calls.specs.Meant.{IsMeantZone, AreNames, IsMeantModify, IsMeantLookup, CallsReadBack}
+use Rattle.wire_calls.specs.Meant.{AreNames, IsMeantModify, IsMeantLookup, CallsReadBack}
 
 -- ---- the members
 
@@ -63,11 +65,11 @@ zone_reads caller key is = by (is_own_default caller key) refl where
 ops_read : (here : ZoneKey) (caller : List ℕ) (ops : List Op) → AllByRecursion IsMeantOp ops → ops_at here caller (there (Some (ops_data ops))) ≡ Ok ops
 ops_read here caller ops all = rw (ops_read_back here caller ops all) refl
 
-texts_read : (names : List (List ℕ)) → AllByRecursion IsName names → each_or_first_error (name_as Texts) (map string names) ≡ Ok names
+texts_read : (names : List (List ℕ)) → AllByRecursion IsName names → each_or_first_error (name_as FieldNames) (map string names) ≡ Ok names
 texts_read [] all = refl
 texts_read (name ∷ names) all = rw (name_told name all.0, texts_read names all.1) refl
 
-objects_read : (names : List (List ℕ)) → AllByRecursion IsName names → each_or_first_error (name_as Objects) (map named_data names) ≡ Ok names
+objects_read : (names : List (List ℕ)) → AllByRecursion IsName names → each_or_first_error (name_as RecordsByName) (map named_data names) ≡ Ok names
 objects_read [] all = refl
 objects_read (name ∷ names) all = rw (name_told name all.0, objects_read names all.1) refl
 
@@ -80,15 +82,15 @@ records_read names all = rw (elements_items (map named_data names), objects_read
 
 -- ---- the limits
 
-within : {A B : Type 0} (xs : List A) (after : Result B BadCall) → length xs ≤ 200 → limited xs after ≡ after
-within xs after few = rw (le-ltb 200 (length xs) few) refl
+within : {A B : Type 0} (xs : List A) (after : Result B BadCall) → length xs ≤ most_items → limited most_items xs after ≡ after
+within xs after few = rw (le-ltb most_items (length xs) few) refl
 
-within_if : {B : Type 0} (o : Option (List (List ℕ))) (after : Result B BadCall) → IfSome o AreNames → limited_if o after ≡ after
+within_if : {B : Type 0} (o : Option (List (List ℕ))) (after : Result B BadCall) → IfSome o AreNames → limited_if most_items o after ≡ after
 within_if None after is = refl
 within_if (Some names) after is = within names after is.1
 
-checks : (ops : List Op) → length ops ≤ 200 → named_again ops ≡ None → checked ops ≡ Ok ops
-checks ops few once = rw (le-ltb 200 (length ops) few, once) refl
+checks : (ops : List Op) → length ops ≤ most_items → named_again ops ≡ None → checked ops ≡ Ok ops
+checks ops few once = rw (le-ltb most_items (length ops) few, once) refl
 
 -- ---- the calls
 
@@ -115,8 +117,8 @@ modify_reads c is =
     let atomic : flag_at Atomic true (found (codes "atomic") (modify_data c)) ≡ Ok c.atomic = ap (flag_at Atomic true) (there_is (codes "atomic")) ∙ flag_reads Atomic true c.atomic in
     let numbers : flag_at NumbersAsStrings false (found (codes "numbersAsStrings") (modify_data c)) ≡ Ok c.numbers_as_strings =
     ap (flag_at NumbersAsStrings false) (there_is (codes "numbersAsStrings")) ∙ flag_reads NumbersAsStrings false c.numbers_as_strings in
-    let ops : ops_at c.zone c.caller (found (codes "operations") (modify_data c)) ≡ Ok c.ops = ap (ops_at c.zone c.caller) (there_is (codes "operations")) ∙ ops_read c.zone c.caller c.ops is.ops in
-    rw (zone, atomic, numbers, ops, checks c.ops is.count is.once) refl
+    let ops : ops_at c.zone c.caller (found (codes "operations") (modify_data c)) ≡ Ok c.ops = ap (ops_at c.zone c.caller) (there_is (codes "operations")) ∙ ops_read c.zone c.caller c.ops is.ops.meant in
+    rw (zone, atomic, numbers, ops, checks c.ops is.ops.few is.ops.once) refl
 
 lookup_reads : (c : LookupCall) → IsMeantLookup c → lookup_of c.database c.caller (lookup_data c) ≡ Ok c
 lookup_reads c is =

@@ -1,6 +1,7 @@
 -- The text of a reply tells it exactly.
 use Rattle.std.proofs.Common.{◌≡◌, ◌≤◌, ℕ, Bool, false, List, [], ◌∷◌, map, Some, refl, sym, ap, subst, ◌∙◌, arith}
-use Rattle.std.specs.Prelude.{IsUtf8}
+use Rattle.std.specs.Prelude.{IsUtf8, IfOk, Result, Ok, Err, codes}
+use Rattle.std.specs.List.{AllByRecursion}
 use Rattle.std.proofs.lemmas.Bool.{or_from}
 use Rattle.serde_json.specs.Data.{Data, depth, items_depth}
 use Rattle.serde_json.specs.Read.{read, max_depth}
@@ -19,8 +20,13 @@ use Rattle.wire_calls.specs.declared.reply.Reply.{Reply}
 use Rattle.wire_calls.specs.declared.reply.Reply.TheVariants.{Modify, Lookup, Refused}
 use Rattle.wire_calls.specs.Asked.{asked_of}
 use Rattle.wire_calls.specs.Entries.{IsEntry}
-use Rattle.wire_calls.specs.Replies.{reply_entry_data, records_reply_data, reply_data, reply_status}
+use Rattle.wire_calls.specs.Lists.{IsRead}
+use Rattle.wire_calls.specs.Replies.{reply_entry_data, entries_data, records_reply_data, reply_data, reply_status}
 use Rattle.wire_calls.specs.RepliesTo.{AreAnswers, IsFor, IsReply, RepliesAreExact}
+use Rattle.wire_calls.proofs.ListTextLemmas.{list_read}
+use Rattle.error_replies.specs.declared.errors.ServerError.{ServerError}
+use Rattle.error_replies.specs.Errors.{status_of}
+use Rattle.error_replies.specs.Bodies.{error_data}
 
 module _ (owner : List ℕ) (as_text : Bool) where
   entry_flat : (e : RecordEntry) → IsEntry e → Flat 6 (reply_entry_data owner as_text e)
@@ -59,34 +65,53 @@ replies_exact (ALookup c) (Lookup r) is = list_exact (asked_of (ALookup c)) r is
 replies_exact (ALookup c) (Refused error) is = record { whole = refl; shallow = omega arith }
 
 -- the text of a reply is one to each call that it is a reply to
-pub text_replies : (reply : Reply) (text : List ℕ) (d : Data) → d ≡ reply_data reply → IsUtf8 text → (depth d ≤ max_depth → read text ≡ Some d)
-    → (call : Call) → IsFor call reply → IsReply call (reply_status reply) text reply
-text_replies reply text d is utf8 reads call to =
-    let shallow : depth d ≤ max_depth = subst (λ e. depth e ≤ max_depth) (sym is) (replies_exact call reply to).shallow in
-    record {
-      json = reply_data reply;
-      is_json = record { text = utf8; reads = reads shallow ∙ ap Some is };
-      is = record { to = to; told = refl; written = refl };
-    }
+text_replies : (call : Call) (reply : Reply) (text : List ℕ) → IsUtf8 text → read text ≡ Some (reply_data reply) → IsFor call reply → IsReply call (reply_status reply) text reply
+text_replies call reply text utf8 reads to = record {
+  json = reply_data reply;
+  is_json = record { text = utf8; reads = reads };
+  is = record { to = to; told = refl; written = refl };
+}
 
--- the JSON of a reply has no float, whatever it tells
-any_entry_whole : (owner : List ℕ) (as_text : Bool) (e : RecordEntry) → has_float (reply_entry_data owner as_text e) ≡ false
-any_entry_whole owner as_text (There r) = records_whole owner as_text r
-any_entry_whole owner as_text (Gone name) = refl
-any_entry_whole owner as_text (Failed error name) = refl
-any_entry_whole owner as_text (InConflict name server) = rw (records_whole owner as_text server) refl
+abbrev entries_of : RecordsReply → List Data
+entries_of r = entries_data r.zone.owner r.numbers_as_strings r.entries
 
-any_entries_whole : (owner : List ℕ) (as_text : Bool) (es : List RecordEntry) → items_have_float (items_of (map (reply_entry_data owner as_text) es)) ≡ false
-any_entries_whole owner as_text [] = refl
-any_entries_whole owner as_text (e ∷ es) = or_from _ _ (any_entry_whole owner as_text e) (any_entries_whole owner as_text es)
+list_reads : (text : List ℕ) (r : RecordsReply) → IsExact (records_reply_data r) → AllByRecursion IsRead (entries_of r) → text ≡ compact_text (records_reply_data r)
+    → read text ≡ Some (records_reply_data r)
+list_reads text r exact all is = ap read is ∙ list_read (codes "records") (entries_of r) all exact.whole exact.shallow
 
-list_whole : (r : RecordsReply) → has_float (records_reply_data r) ≡ false
-list_whole r = or_from _ _ (any_entries_whole r.zone.owner r.numbers_as_strings r.entries) refl
+answered : (text : List ℕ) (call : Call) (reply other : Reply) → IsUtf8 text → reply ≡ other → (IsFor call other → read text ≡ Some (reply_data other)) → IsFor call reply
+    → IsReply call (reply_status reply) text reply
+answered text call reply other utf8 is reads =
+    subst (λ (x : Reply). IsFor call x → IsReply call (reply_status x) text x) (sym is) (λ to. text_replies call other text utf8 (reads to) to)
 
-reply_whole : (reply : Reply) → has_float (reply_data reply) ≡ false
-reply_whole (Modify r) = list_whole r
-reply_whole (Lookup r) = list_whole r
-reply_whole (Refused error) = refl
+module _ {A E : Type 0} (bytes : A → List ℕ) (utf8 : (a : A) → IsUtf8 (bytes a)) (call : Call) (reply : Reply) where
+  abbrev IsAnswered : Result A E → Type 0
+  IsAnswered answer = IfOk answer (λ a. IsReply call (reply_status reply) (bytes a) reply)
 
-pub text_is : (reply : Reply) (text : List ℕ) (d : Data) → d ≡ reply_data reply → (has_float d ≡ false → text ≡ compact_text d) → text ≡ compact_text (reply_data reply)
-text_is reply text d is writes = writes (ap has_float is ∙ reply_whole reply) ∙ ap compact_text is
+  pub modify_replies : (r : RecordsReply) (answer : Result A E) → reply ≡ Modify r → IfOk answer (λ a. bytes a ≡ compact_text (records_reply_data r))
+      → IfOk answer (λ a. AllByRecursion IsRead (entries_of r)) → IsFor call reply → IsAnswered answer
+  modify_replies r (Ok a) is text all to = answered (bytes a) call reply (Modify r) (utf8 a) is (λ to. list_reads (bytes a) r (replies_exact call (Modify r) to) all text) to
+  modify_replies r (Err e) is text all to = tt
+
+  pub lookup_replies : (r : RecordsReply) (answer : Result A E) → reply ≡ Lookup r → IfOk answer (λ a. bytes a ≡ compact_text (records_reply_data r))
+      → IfOk answer (λ a. AllByRecursion IsRead (entries_of r)) → IsFor call reply → IsAnswered answer
+  lookup_replies r (Ok a) is text all to = answered (bytes a) call reply (Lookup r) (utf8 a) is (λ to. list_reads (bytes a) r (replies_exact call (Lookup r) to) all text) to
+  lookup_replies r (Err e) is text all to = tt
+
+  pub refused_replies : (error : ServerError) (answer : Result A E) → reply ≡ Refused error → IfOk answer (λ a. bytes a ≡ compact_text (error_data error))
+      → IfOk answer (λ a. IsRead (error_data error)) → IsFor call reply → IsAnswered answer
+  refused_replies error (Ok a) is text told to = answered (bytes a) call reply (Refused error) (utf8 a) is (λ to. ap read text ∙ told.reads (replies_exact call (Refused error) to).shallow) to
+  refused_replies error (Err e) is text told to = tt
+
+-- the JSON of an entry has no float, whatever it tells
+entry_whole : (owner : List ℕ) (as_text : Bool) (e : RecordEntry) → has_float (reply_entry_data owner as_text e) ≡ false
+entry_whole owner as_text (There r) = records_whole owner as_text r
+entry_whole owner as_text (Gone name) = refl
+entry_whole owner as_text (Failed error name) = refl
+entry_whole owner as_text (InConflict name server) = rw (records_whole owner as_text server) refl
+
+-- what was made for an entry has none
+pub made_whole : {A E : Type 0} (seen : A → Data) (owner : List ℕ) (as_text : Bool) (e : RecordEntry) (answer : Result A E)
+    → IfOk answer (λ a. seen a ≡ reply_entry_data owner as_text e) → IfOk answer (λ a. has_float (seen a) ≡ false)
+made_whole seen owner as_text e (Ok a) is = ap has_float is ∙ entry_whole owner as_text e
+made_whole seen owner as_text e (Err fault) is = tt

@@ -4,6 +4,7 @@ use Rattle.serde_json.specs.Data.{Data, boolean, string, array}
 use Rattle.serde_json.specs.View.{items_of}
 use Rattle.ck_base.specs.declared.key.ZoneKey.{ZoneKey}
 use Rattle.ck_base.specs.KnownNames.{is_own_default}
+use Rattle.field_values.specs.ZoneIds.{zone_data}
 use Rattle.ck_records.specs.Objects.{object_of}
 use Rattle.ck_records.specs.Writing.{named_data}
 use Rattle.modify_ops.specs.Writing.{ops_data}
@@ -11,7 +12,6 @@ use Rattle.wire_calls.specs.declared.call.ModifyCall.{ModifyCall}
 use Rattle.wire_calls.specs.declared.call.LookupCall.{LookupCall}
 use Rattle.wire_calls.specs.declared.call.Call.{Call}
 use Rattle.wire_calls.specs.declared.call.Call.TheVariants.{Modify, Lookup}
-use Rattle.wire_calls.specs.Zones.{zone_data}
 
 -- a truth value that is not the default
 abbrev pub flag_data : Bool → Bool → Option Data

@@ -13,7 +13,8 @@ use Rattle.field_values.specs.Members.{found}
 use Rattle.field_values.specs.Results.{result_map}
 use Rattle.ck_records.specs.Sequence.{◌>>=◌}
 use Rattle.zone_model.specs.declared.operations.Op.{Op}
-use Rattle.modify_ops.specs.Names.{named_again}
+use Rattle.zone_model.specs.Limits.{most_items}
+use Rattle.zone_model.specs.GivenNames.{named_again}
 use Rattle.modify_ops.specs.Reading.{list_of}
 use Rattle.wire_calls.specs.declared.call.ModifyCall.{ModifyCall}
 use Rattle.wire_calls.specs.declared.call.LookupCall.{LookupCall}
@@ -37,7 +38,7 @@ unless_again ops (Some name) = Err (Twice name)
 
 -- at most 200, of which none names a record or a root again
 abbrev pub checked : List Op → Result (List Op) BadCall
-checked ops = limited ops (unless_again ops (named_again ops))
+checked ops = limited most_items ops (unless_again ops (named_again ops))
 
 module _ (database : Database) (caller : List ℕ) where
   abbrev pub modify_of : Data → Result ModifyCall BadCall
@@ -55,7 +56,7 @@ module _ (database : Database) (caller : List ℕ) where
     numbers ← flag_at NumbersAsStrings false (found (codes "numbersAsStrings") d)
     keys ← keys_at (found (codes "desiredKeys") d)
     names ← records_at (found (codes "records") d)
-    limited_if keys (limited names
+    limited_if most_items keys (limited most_items names
         (Ok (record { caller = caller; database = database; zone = zone; numbers_as_strings = numbers; desired_keys = keys; names = names })))
 
 -- what is wrong with a body that is no object

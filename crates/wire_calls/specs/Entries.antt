@@ -9,7 +9,9 @@ use Rattle.record_model.specs.declared.records.Record.{Record}
 use Rattle.record_model.specs.RecordForms.{IsStored}
 use Rattle.ck_records.specs.Writing.{record_data}
 use Rattle.error_replies.specs.declared.errors.ServerError.{ServerError}
-use Rattle.error_replies.specs.declared.errors.ServerError.TheVariants.{AccessDenied, AtomicError, AuthenticationFailed, AuthenticationRequired, BadRequest, Conflict, Exists, NotFound, TryAgainLater, ValidatingReferenceError, ZoneNotFound}
+use Rattle.error_replies.specs.declared.errors.ServerError.TheVariants.{AccessDenied, AtomicError, AuthenticationFailed, AuthenticationRequired}
+use Rattle.error_replies.specs.declared.errors.ServerError.TheVariants.{BadRequest, Conflict, Exists, NotFound, TryAgainLater}
+use Rattle.error_replies.specs.declared.errors.ServerError.TheVariants.{ValidatingReferenceError, ZoneNotFound}
 use Rattle.error_replies.specs.Errors.{code_of}
 use Rattle.wire_calls.specs.declared.asked.Asked.{Asked}
 use Rattle.wire_calls.specs.declared.reply.RecordEntry.{RecordEntry}

@@ -1,7 +1,9 @@
--- zone IDs
+-- the zone that a call names
 pub mod Zones
--- members that are truth values or lists of names
+-- members that are truth values, texts, whole numbers or lists of names
 pub mod Members
+-- lists of texts and of zones
+pub mod Listings
 -- which call a body means, or the first fault
 pub mod Calls
 -- which call the bytes of a body mean
@@ -12,6 +14,8 @@ pub mod CallWriting
 pub mod Meant
 -- the text of a call tells it exactly
 pub mod CallTexts
+-- lists of replies, and what is read of their text
+pub mod Lists
 -- the JSON of replies, and their status
 pub mod Replies
 -- what a call asks of each entry of its reply

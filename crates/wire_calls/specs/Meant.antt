@@ -1,37 +1,26 @@
 -- The calls that some body means, and reading what was written.
-use Rattle.std.specs.Prelude.{◌≡◌, ◌≤◌, ℕ, List, length, None, Some, IfSome, Ok}
+use Rattle.std.specs.Prelude.{◌≡◌, ◌≤◌, ℕ, List, length, Some, IfSome, Ok}
 use Rattle.std.specs.List.{AllByRecursion}
 use Rattle.ck_base.specs.Names.{IsName}
-use Rattle.ck_base.specs.declared.key.ZoneKey.{ZoneKey}
 use Rattle.ck_base.specs.declared.route.Operation.TheVariants.{RecordsModify, RecordsLookup}
 use Rattle.ck_base.specs.declared.route.Route.{Route}
-use Rattle.modify_ops.specs.Names.{named_again}
-use Rattle.zone_model.specs.OpForms.{IsMeantOp}
+use Rattle.field_values.specs.ZoneIds.{IsMeantZone}
+use Rattle.zone_model.specs.Limits.{most_items}
+use Rattle.zone_model.specs.OpForms.{AreMeantOps}
 use Rattle.wire_calls.specs.declared.call.ModifyCall.{ModifyCall}
 use Rattle.wire_calls.specs.declared.call.LookupCall.{LookupCall}
 use Rattle.wire_calls.specs.declared.call.Call.{Call}
 use Rattle.wire_calls.specs.declared.call.Call.TheVariants.{Modify, Lookup}
-use Rattle.wire_calls.specs.Zones.{owner_of}
 use Rattle.wire_calls.specs.Calls.{call_of}
 use Rattle.wire_calls.specs.CallWriting.{call_data}
 
--- a name that stands for itself, where the caller gives it
-abbrev pub IsMeantOwner : List ℕ → List ℕ → Type 0
-IsMeantOwner caller name = IsName name × (owner_of caller name ≡ name)
-
-pub record IsMeantZone (caller : List ℕ) (key : ZoneKey) : Type 0 where
-  pub owner : IsMeantOwner caller key.owner
-  pub zone : IsName key.zone
-
 -- at most 200 names
 abbrev pub AreNames : List (List ℕ) → Type 0
-AreNames names = AllByRecursion IsName names × (length names ≤ 200)
+AreNames names = AllByRecursion IsName names × (length names ≤ most_items)
 
 pub record IsMeantModify (c : ModifyCall) : Type 0 where
   pub zone : IsMeantZone c.caller c.zone
-  pub ops : AllByRecursion IsMeantOp c.ops
-  pub count : length c.ops ≤ 200
-  pub once : named_again c.ops ≡ None
+  pub ops : AreMeantOps c.ops
 
 pub record IsMeantLookup (c : LookupCall) : Type 0 where
   pub zone : IsMeantZone c.caller c.zone

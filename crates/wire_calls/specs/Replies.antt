@@ -1,12 +1,12 @@
 -- The JSON of replies, and their status.
 use Rattle.std.specs.Prelude.{ℕ, Bool, true, List, map, codes}
-use Rattle.serde_json.specs.Data.{Data, boolean, string, array, object, no_members, member}
-use Rattle.serde_json.specs.View.{items_of}
+use Rattle.serde_json.specs.Data.{Data, boolean, string, object, no_members, member}
 use Rattle.ck_records.specs.Writing.{record_data}
 use Rattle.error_replies.specs.declared.errors.ServerError.{ServerError}
 use Rattle.error_replies.specs.declared.errors.ServerError.TheVariants.{Conflict}
 use Rattle.error_replies.specs.Errors.{code_of, reason_of, status_of}
 use Rattle.error_replies.specs.Bodies.{error_data}
+use Rattle.wire_calls.specs.Lists.{list_data}
 use Rattle.wire_calls.specs.declared.reply.RecordEntry.{RecordEntry}
 use Rattle.wire_calls.specs.declared.reply.RecordEntry.TheVariants.{There, Gone, Failed, Conflict as InConflict}
 use Rattle.wire_calls.specs.declared.reply.RecordsReply.{RecordsReply}
@@ -38,12 +38,12 @@ module _ (owner : List ℕ) (as_text : Bool) where
   reply_entry_data (Failed error name) = failed_data error name
   reply_entry_data (InConflict name server) = conflict_data name (record_data owner as_text server)
 
-  abbrev pub entries_data : List RecordEntry → Data
-  entries_data entries = array (items_of (map reply_entry_data entries))
+  abbrev pub entries_data : List RecordEntry → List Data
+  entries_data entries = map reply_entry_data entries
 
 -- an entry for each, in order
 abbrev pub records_reply_data : RecordsReply → Data
-records_reply_data r = object (member (codes "records") (entries_data r.zone.owner r.numbers_as_strings r.entries) no_members)
+records_reply_data r = list_data (codes "records") (entries_data r.zone.owner r.numbers_as_strings r.entries)
 
 abbrev pub reply_data : Reply → Data
 reply_data (Modify r) = records_reply_data r

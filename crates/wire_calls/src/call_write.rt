@@ -4,7 +4,6 @@ ghost use Rattle.serde_json.specs.Data.{string};
 ghost use Rattle.serde_json.specs.View.{view};
 ghost use Rattle.serde_json.specs.Written.{compact_text};
 ghost use Rattle.ck_records.specs.Writing.{named_data};
-ghost use Rattle.wire_calls.specs.Zones.{zone_data};
 ghost use Rattle.wire_calls.specs.Meant.{IsMeantCall, route_of, caller_of};
 ghost use Rattle.wire_calls.specs.Means.{Means};
 ghost use Rattle.wire_calls.specs.CallWriting.{flag_data, zone_given, names_data, records_data, modify_data, lookup_data, call_data};
@@ -12,6 +11,7 @@ ghost use Rattle.wire_calls.specs.CallWriting.{flag_data, zone_given, names_data
 use crate::{Call, LookupCall, ModifyCall};
 use ck_base::{NoMemory, RecordName, RecordNames, UserName, ZoneKey, is_own_default};
 use ck_records::put_some;
+use field_values::zone_json;
 use modify_ops::ops_json;
 use serde_json::{Map, Value as Json, json};
 use std::alloc::Global;
@@ -24,14 +24,6 @@ fn flag_json(default: bool, flag: bool) -> Option<Json>
     } else {
         Some(Json::Bool(flag))
     }
-}
-
-pub(crate) fn zone_json(alloc: Global, key: &ZoneKey) -> Result<Json, NoMemory>
-    ensures { IfOk result (λ json. view json ≡ zone_data key.now) }
-{
-    let owner = key.owner.as_str();
-    let zone = key.zone.as_str();
-    Ok(json!(in alloc; {"ownerRecordName": owner, "zoneName": zone})?)
 }
 
 fn zone_given(alloc: Global, caller: &UserName, key: &ZoneKey) -> Result<Option<Json>, NoMemory>
@@ -152,7 +144,7 @@ pub fn call_json(alloc: Global, call: &Call) -> Result<Json, NoMemory>
 pub fn call_text(alloc: Global, call: &Call) -> Result<String, NoMemory>
     ensures means { IsMeantCall call.now → IfOk result (λ text.
         Means (route_of call.now) (caller_of call.now) (string_bytes text) call.now) }
-    ensures text { IsMeantCall call.now → IfOk result (λ text.
+    ensures text { IfOk result (λ text.
         string_bytes text ≡ compact_text (call_data call.now)) }
 {
     let json = call_json(alloc, call)?;

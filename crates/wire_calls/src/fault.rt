@@ -11,6 +11,13 @@ pub enum CallKey {
     Operations,
     DesiredKeys,
     Records,
+    ShortGuids,
+    Zones,
+    Subscriptions,
+    SyncToken,
+    SubscriptionId,
+    Number,
+    ResultsLimit,
 }
 
 /// Why a body means no call. The faults are looked for in this order.
@@ -22,7 +29,7 @@ pub enum BadCall {
     NotJson,
     /// This member, the first such one, has a wrong form.
     BadKey(CallKey),
-    /// The first list that is longer than 200 has so many elements.
+    /// The first list that is longer than its limit has so many elements.
     TooMany(u64),
     /// The name that comes again at the first operation that names a record or a root again.
     Twice(RecordName),

@@ -6,7 +6,7 @@ ghost use Rattle.ck_base.specs.Names.{IsName};
 ghost use Rattle.serde_json.specs.View.{view};
 ghost use Rattle.ck_base.specs.Told.{IsToldUnless};
 ghost use Rattle.field_values.specs.Results.{each_or_first_error};
-ghost use Rattle.wire_calls.specs.Members.{listed_name, call_key, name_as, names_in, keys_at, records_at};
+ghost use Rattle.wire_calls.specs.Members.{listed_name, call_key, name_as, names_in, keys_at, records_at, subscriptions_at};
 
 use crate::{BadCall, CallKey};
 use ck_base::{Items, NoMemory, RecordName, RecordNames};
@@ -14,21 +14,24 @@ use field_values::{member, name_in};
 use serde_json::Value as Json;
 use std::alloc::Global;
 
-/// What the elements of a list of names are.
+/// The lists of names in calls.
 #[derive(Clone, Copy)]
 pub(crate) enum Listed {
-    /// The names of fields, as texts.
-    Texts,
-    /// Objects with the names of records.
-    Objects,
+    /// The names of fields in `desiredKeys`, as texts.
+    FieldNames,
+    /// Objects with the names of records in `records`.
+    RecordsByName,
+    /// Objects with the IDs of subscriptions in `subscriptions`.
+    SubscriptionsById,
 }
 
 fn call_key(listed: Listed) -> CallKey
     ensures { result ≡ call_key listed }
 {
     match listed {
-        Listed::Texts => CallKey::DesiredKeys,
-        Listed::Objects => CallKey::Records,
+        Listed::FieldNames => CallKey::DesiredKeys,
+        Listed::RecordsByName => CallKey::Records,
+        Listed::SubscriptionsById => CallKey::Subscriptions,
     }
 }
 
@@ -37,8 +40,9 @@ fn listed_name(alloc: Global, listed: Listed, json: &Json) -> Result<Option<Reco
     ensures meant { IfOk result (λ name. IfSome name IsName) }
 {
     match listed {
-        Listed::Texts => name_in(alloc, Some(json)),
-        Listed::Objects => name_in(alloc, member(json, "recordName")),
+        Listed::FieldNames => name_in(alloc, Some(json)),
+        Listed::RecordsByName => name_in(alloc, member(json, "recordName")),
+        Listed::SubscriptionsById => name_in(alloc, member(json, "subscriptionID")),
     }
 }
 
@@ -86,7 +90,7 @@ pub(crate) fn keys_at(alloc: Global, json: Option<&Json>) -> Result<Option<Recor
     if json.is_none() {
         return Ok(None);
     }
-    Ok(Some(names_in(alloc, Listed::Texts, json)?))
+    Ok(Some(names_in(alloc, Listed::FieldNames, json)?))
 }
 
 /// The names of the records that a call lists.
@@ -95,5 +99,15 @@ pub(crate) fn records_at(alloc: Global, json: Option<&Json>) -> Result<RecordNam
         (records_at (option_map (λ v. view v.now) json.entry)) }
     ensures meant { IfOk result (AllByRecursion IsName) }
 {
-    names_in(alloc, Listed::Objects, json)
+    names_in(alloc, Listed::RecordsByName, json)
+}
+
+/// The IDs of the subscriptions that a call lists as `subscriptions`: a list of objects with
+/// `subscriptionID`. Anything else is `BadKey`.
+pub fn subscriptions_at(alloc: Global, json: Option<&Json>) -> Result<RecordNames, BadCall>
+    ensures names { IsToldUnless BadCall.NoMemory result
+        (subscriptions_at (option_map (λ v. view v.now) json.entry)) }
+    ensures meant { IfOk result (AllByRecursion IsName) }
+{
+    names_in(alloc, Listed::SubscriptionsById, json)
 }

@@ -2,12 +2,13 @@
 ghost use Rattle.std.specs.Prelude.{◌≡◌, ◌≤◌, IfOk, IfSome, OnOk, Ok, length, option_map};
 ghost use Rattle.serde_json.specs.View.{view};
 ghost use Rattle.ck_base.specs.Told.{IsToldUnless};
+ghost use Rattle.zone_model.specs.Limits.{most_items};
 ghost use Rattle.wire_calls.specs.Meant.{IsMeantLookup};
 ghost use Rattle.wire_calls.specs.Calls.{lookup_of};
 ghost use Rattle.wire_calls.specs.Members.{limited, limited_if};
 
 use crate::lists::{keys_at, records_at};
-use crate::members::flag_at;
+use crate::members::{check_count, flag_at};
 use crate::zones::zone_at;
 use crate::{BadCall, CallKey, LookupCall};
 use ck_base::limits::LIST_ITEMS;
@@ -17,18 +18,15 @@ use serde_json::Value as Json;
 use std::alloc::Global;
 
 fn limited(names: &RecordNames) -> Result<(), BadCall>
-    ensures limit { result ≡ limited names.now (Ok tt) }
-    ensures count { OnOk result (length names.now ≤ 200) }
+    ensures limit { result ≡ limited most_items names.now (Ok tt) }
+    ensures count { OnOk result (length names.now ≤ most_items) }
 {
-    if names.len() > LIST_ITEMS {
-        return Err(BadCall::TooMany(names.len() as u64));
-    }
-    Ok(())
+    check_count(LIST_ITEMS, names.len())
 }
 
 fn limited_if(names: &Option<RecordNames>) -> Result<(), BadCall>
-    ensures limit { result ≡ limited_if names.now (Ok tt) }
-    ensures count { OnOk result (IfSome names.now (λ names. length names ≤ 200)) }
+    ensures limit { result ≡ limited_if most_items names.now (Ok tt) }
+    ensures count { OnOk result (IfSome names.now (λ names. length names ≤ most_items)) }
 {
     match names {
         Some(names) => limited(names),
@@ -38,9 +36,9 @@ fn limited_if(names: &Option<RecordNames>) -> Result<(), BadCall>
 
 // Whether the list of fields is short enough, and then the names.
 fn limits(keys: &Option<RecordNames>, names: &RecordNames) -> Result<(), BadCall>
-    ensures limit { result ≡ limited_if keys.now (limited names.now (Ok tt)) }
-    ensures keys { OnOk result (IfSome keys.now (λ keys. length keys ≤ 200)) }
-    ensures names { OnOk result (length names.now ≤ 200) }
+    ensures limit { result ≡ limited_if most_items keys.now (limited most_items names.now (Ok tt)) }
+    ensures keys { OnOk result (IfSome keys.now (λ keys. length keys ≤ most_items)) }
+    ensures names { OnOk result (length names.now ≤ most_items) }
 {
     limited_if(keys)?;
     limited(names)

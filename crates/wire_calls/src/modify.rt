@@ -1,14 +1,13 @@
 // Reading the call that changes records.
-ghost use Rattle.std.specs.Prelude.{◌≡◌, ◌≤◌, None, IfOk, length, option_map};
+ghost use Rattle.std.specs.Prelude.{◌≡◌, IfOk, option_map};
 ghost use Rattle.std.specs.List.{AllByRecursion};
 ghost use Rattle.serde_json.specs.View.{view};
 ghost use Rattle.ck_base.specs.Told.{IsToldUnless};
-ghost use Rattle.modify_ops.specs.Names.{named_again};
-ghost use Rattle.zone_model.specs.OpForms.{IsMeantOp};
+ghost use Rattle.zone_model.specs.OpForms.{IsMeantOp, AreMeantOps};
 ghost use Rattle.wire_calls.specs.Meant.{IsMeantModify};
 ghost use Rattle.wire_calls.specs.Calls.{ops_at, checked, modify_of};
 
-use crate::members::flag_at;
+use crate::members::{check_count, flag_at};
 use crate::zones::zone_at;
 use crate::{BadCall, CallKey, ModifyCall};
 use ck_base::limits::LIST_ITEMS;
@@ -41,12 +40,9 @@ fn ops_at(
 fn checked(ops: Ops) -> Result<Ops, BadCall>
     ensures ops { IsToldUnless BadCall.NoMemory result (checked ops) }
     ensures same { IfOk result (λ kept. kept ≡ ops) }
-    ensures count { IfOk result (λ kept. length kept ≤ 200) }
-    ensures once { IfOk result (λ kept. named_again kept ≡ None) }
+    ensures meant { AllByRecursion IsMeantOp ops → IfOk result AreMeantOps }
 {
-    if ops.len() > LIST_ITEMS {
-        return Err(BadCall::TooMany(ops.len() as u64));
-    }
+    check_count(LIST_ITEMS, ops.len())?;
     if let Some(name) = named_again(&ops) {
         return Err(BadCall::Twice(name.clone()?));
     }

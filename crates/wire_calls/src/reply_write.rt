@@ -1,10 +1,7 @@
 // The JSON of replies.
-ghost use Rattle.std.specs.Prelude.{◌≡◌, IfOk, map, string_bytes};
+ghost use Rattle.std.specs.Prelude.{◌≡◌, IfOk, map};
 ghost use Rattle.serde_json.specs.View.{view};
-ghost use Rattle.serde_json.specs.Written.{compact_text};
 ghost use Rattle.ck_records.specs.Writing.{record_data};
-ghost use Rattle.wire_calls.specs.declared.call.Call.{Call};
-ghost use Rattle.wire_calls.specs.RepliesTo.{IsFor, IsReply};
 ghost use Rattle.wire_calls.specs.Replies.{gone_data, failed_data, conflict_data, reply_entry_data, records_reply_data, reply_data, reply_status};
 
 use crate::{RecordEntry, RecordsReply, Reply};
@@ -62,7 +59,7 @@ pub(crate) fn conflict_json(
     with_server(alloc, name, server)
 }
 
-fn entry_json(
+pub(crate) fn record_entry_json(
     alloc: Global,
     entry: &RecordEntry,
     owner: &UserName,
@@ -92,7 +89,7 @@ fn each_entry(
 {
     let mut list = Vec::new(alloc);
     for entry in entries {
-        list.push(entry_json(alloc, entry, owner, numbers_as_strings)?)?;
+        list.push(record_entry_json(alloc, entry, owner, numbers_as_strings)?)?;
     }
     Ok(list)
 }
@@ -132,15 +129,4 @@ pub fn reply_status(reply: &Reply) -> u16
         Reply::Lookup(_) => 200,
         Reply::Refused(error) => status(*error),
     }
-}
-
-/// The body of a response with the reply: the text of `reply_json`. With `reply_status` it is this
-/// reply to each call that the reply is one to. It fails only where memory runs out.
-pub fn reply_text(alloc: Global, reply: &Reply) -> Result<String, NoMemory>
-    ensures reply { (call : Call) → IsFor call reply.now → IfOk result (λ text.
-        IsReply call (reply_status reply.now) (string_bytes text) reply.now) }
-    ensures text { IfOk result (λ text. string_bytes text ≡ compact_text (reply_data reply.now)) }
-{
-    let json = reply_json(alloc, reply)?;
-    Ok(json.to_string(alloc)?)
 }

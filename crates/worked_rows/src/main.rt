@@ -2,51 +2,38 @@
 #![tactic(auto)]
 
 mod commands;
-mod errors;
-mod fronts;
-mod leaf;
-mod leaf_calls;
-mod leaf_fault;
-mod leaf_fields;
-mod leaf_operations;
-mod leaf_records;
-mod leaf_words;
-mod reads;
 mod talking;
 
-use case_files::{Call, Report, Row, Scenario, trials_of};
+use case_files::{Call, Outcome, Report, Row, Scenario, Trial, trials_of};
 use ck_base::NoMemory;
 use commands::run;
-use errors::error_told;
-use fronts::{answer_front, front_named};
 use http_front::{Users, read_users};
-use leaf::answer_to;
 use std::alloc::Global;
 use std::process::ExitCode;
 use std::rt::{Env, Files};
 use std::{env, fs};
 use talking::talk;
-
-/// Who may call, in every connection and every row of a caller.
-pub const TABLE: &[u8] = b"iCloud.test development api\nwa ann\nwb bob\nwc cat\nwd dan\n";
-
-// What the call of a row makes of its text, if there is such a call.
-fn answer(alloc: Global, call: &Call) -> Result<Option<String>, NoMemory> {
-    let (name, text) = (call.name.as_str(), call.text.as_str());
-    if let Some(front) = front_named(name) {
-        return Ok(Some(answer_front(alloc, front, text)?));
-    }
-    match name {
-        "error" => Ok(Some(error_told(alloc, text)?)),
-        name => answer_to(alloc, name, text),
-    }
-}
+use wire_rows::{TABLE, answer_to};
 
 fn answer_call(alloc: Global, call: &Call, report: &mut Report) -> Result<(), NoMemory> {
-    let got = answer(alloc, call)?;
+    let got = answer_to(alloc, call.name.as_str(), call.text.as_str())?;
     let got = got.as_ref().map(|text| text.as_str());
     report.judge_call(call, got)?;
     Ok(())
+}
+
+// What comes of one run.
+fn outcome_of(
+    alloc: Global,
+    users: &Users,
+    scenario: &Scenario,
+    trial: &Trial,
+    bytes: &[u8],
+) -> Result<Outcome, NoMemory> {
+    match &scenario.command {
+        Some(words) => run(alloc, words.as_str(), scenario, trial, bytes),
+        None => talk(alloc, users, scenario, trial, bytes),
+    }
 }
 
 // Runs a scenario as often as it says.
@@ -61,10 +48,7 @@ fn answer_scenario(
     report.begin_scenario(scenario, trials.len())?;
     for trial in &trials {
         let bytes = trial.front_of(&sent);
-        let mut outcome = match &scenario.command {
-            Some(words) => run(alloc, words.as_str(), scenario, trial, bytes)?,
-            None => talk(alloc, users, scenario, trial, bytes)?,
-        };
+        let mut outcome = outcome_of(alloc, users, scenario, trial, bytes)?;
         report.judge_run(scenario, trial, &mut outcome)?;
     }
     Ok(())

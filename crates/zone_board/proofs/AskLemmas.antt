@@ -57,8 +57,8 @@ module _ (events : List Event) (user : List ℕ) (key : ZoneKey) (by_owner : use
   all_found [] = refl
   all_found (x ∷ names) = λ i. puts_found.found (log_of events) key x ones i ∷ all_found names i
 
-  looked_up : (names : List (List ℕ)) → answer (sight events (Lookup user Private key names)) (Lookup user Private key names) ≡ LookupAnswer (map (λ x. last_put key x (log_of events)) names)
-  looked_up names = ap (λ (v : View). if v.here then LookupAnswer (map (record_at v.rows) names) else NoZone) viewed ∙ ap LookupAnswer (all_found names)
+  looked_up : (lock : ℕ) (names : List (List ℕ)) → answer lock (sight lock events (Lookup user Private key names)) (Lookup user Private key names) ≡ LookupAnswer (map (λ x. last_put key x (log_of events)) names)
+  looked_up lock names = ap (λ (v : View). if v.here then LookupAnswer (map (record_at v.rows) names) else NoZone) viewed ∙ ap LookupAnswer (all_found names)
 
   -- ---- modifications
 
@@ -79,8 +79,8 @@ module _ (events : List Event) (user : List ℕ) (key : ZoneKey) (by_owner : use
     none_drawn : guids_at key ops words ≡ []
     none_drawn = no_guids (lock_of_names key.owner key.zone) ops words plain
 
-    told : answer (sight events its_part) its_part ≡ ModifyAnswer apart.outcomes
-    told =
+    told : (lock : ℕ) → answer lock (sight lock events its_part) its_part ≡ ModifyAnswer apart.outcomes
+    told lock =
         let guids = guids_at key ops words in
         let before : OpSight = op_sight its_caller moment (log_of events) its_ops in
         let each : List OpSight = sights_of its_caller moment (log_of events) its_ops guids in
@@ -89,8 +89,8 @@ module _ (events : List Event) (user : List ℕ) (key : ZoneKey) (by_owner : use
         ∙ ap (λ gs. ModifyAnswer (outcomes_apart its_caller moment (sights_of its_caller moment (log_of events) its_ops gs) its_ops gs)) none_drawn
         ∙ ap ModifyAnswer (seen_apart its_caller owns moment default its_ops (log_of events) [] (plain_named ops words plain) ones)
 
-    committed : commits_by events its_part ≡ apart.commits
-    committed =
+    committed : (lock : ℕ) → commits_by lock events its_part ≡ apart.commits
+    committed lock =
         let guids = guids_at key ops words in
         ap (λ (v : View). if v.here then commits_of_request its_caller moment (log_of events) atomic its_ops guids else []) viewed
         ∙ ap (λ b. (if b then modified_as_one its_caller moment (log_of events) its_ops guids else modified_apart its_caller moment (log_of events) its_ops guids).commits) (one_off atomic)
@@ -105,13 +105,13 @@ all_is asking log ops = refl
 
 module _ (lock : ℕ) (events : List Event) (part : Part) (may : MayBeAsked lock part) (ones : AllByRecursion IsOnePut (log_of events)) (user : List ℕ) (scope : Scope) (key : ZoneKey) where
   module _ (names : List (List ℕ)) (is : part ≡ Lookup user scope key names) where
-    lookup_told : answer (sight events part) part ≡ LookupAnswer (map (λ x. last_put key x (log_of events)) names)
+    lookup_told : answer lock (sight lock events part) part ≡ LookupAnswer (map (λ x. last_put key x (log_of events)) names)
     lookup_told =
         let mine = subst (MayBeAsked lock) is may in
-        ap (λ p. answer (sight events p) p) (is ∙ ap (λ s. Lookup user s key names) mine.in_private) ∙ looked_up events user key mine.by_owner mine.in_default ones names
+        ap (λ p. answer lock (sight lock events p) p) (is ∙ ap (λ s. Lookup user s key names) mine.in_private) ∙ looked_up events user key mine.by_owner mine.in_default ones lock names
 
     pub lookup_answered : (seen : List Event) (asked : List (List ℕ)) (found : List (Option Record)) → seen ≡ events → asked ≡ names → found ≡ map (λ x. last_put key x (log_of seen)) asked
-        → LookupAnswer found ≡ answer (sight events part) part
+        → LookupAnswer found ≡ answer lock (sight lock events part) part
     lookup_answered seen asked found seen_is asked_is found_is =
         ap LookupAnswer (found_is ∙ (λ i. map (λ x. last_put key x (log_of (seen_is i))) (asked_is i))) ∙ sym lookup_told
 
@@ -129,22 +129,22 @@ module _ (lock : ℕ) (events : List Event) (part : Part) (may : MayBeAsked lock
     part_is : part ≡ Modify user Private key atomic ops moment words
     part_is = is ∙ ap (λ s. Modify user s key atomic ops moment words) (subst (MayBeAsked lock) is may).0.in_private
 
-    commits_are : its_done.commits ≡ commits_by events part
+    commits_are : its_done.commits ≡ commits_by lock events part
     commits_are =
         let mine = subst (MayBeAsked lock) is may in
         ap (λ (m : Modified). m.commits) done_is
-        ∙ sym (ap (commits_by events) part_is ∙ committed events user key mine.0.by_owner mine.0.in_default ones atomic ops moment words mine.1.plain)
+        ∙ sym (ap (commits_by lock events) part_is ∙ committed events user key mine.0.by_owner mine.0.in_default ones atomic ops moment words mine.1.plain lock)
 
-    pub modify_answered : (given : Answer) → given ≡ ModifyAnswer its_done.outcomes → given ≡ answer (sight events part) part
+    pub modify_answered : (given : Answer) → given ≡ ModifyAnswer its_done.outcomes → given ≡ answer lock (sight lock events part) part
     modify_answered given is_told =
         let mine = subst (MayBeAsked lock) is may in
         is_told ∙ ap (λ (m : Modified). ModifyAnswer m.outcomes) done_is
-        ∙ sym (ap (λ p. answer (sight events p) p) part_is ∙ told events user key mine.0.by_owner mine.0.in_default ones atomic ops moment words mine.1.plain)
+        ∙ sym (ap (λ p. answer lock (sight lock events p) p) part_is ∙ told events user key mine.0.by_owner mine.0.in_default ones atomic ops moment words mine.1.plain lock)
 
-    pub modify_made : (seat : ℕ) (new : List Event) → new ≡ events ++ event_of seat events its_done.commits → new ≡ events ++ made seat events part
+    pub modify_made : (seat : ℕ) (new : List Event) → new ≡ events ++ event_of seat events its_done.commits → new ≡ events ++ made lock seat events part
     modify_made seat new new_is = new_is ∙ ap (λ cs. events ++ event_of seat events cs) commits_are
 
-    pub modify_makes : (event : Bool) → event ≡ makes its_done.commits → event ≡ makes (commits_by events part)
+    pub modify_makes : (event : Bool) → event ≡ makes its_done.commits → event ≡ makes (commits_by lock events part)
     modify_makes event event_is = event_is ∙ ap makes commits_are
 
     -- the history stays as it is to be
@@ -155,6 +155,6 @@ module _ (lock : ℕ) (events : List Event) (part : Part) (may : MayBeAsked lock
         let named = named_ops ops words in
         let all_formed : AllByRecursion (IsCreation key) all_apart.commits = subst (λ (m : Modified). AllByRecursion (IsCreation key) m.commits) done_is formed in
         let grown : new ≡ events ++ event_of seat events all_apart.commits = new_is ∙ ap (λ (m : Modified). events ++ event_of seat events m.commits) done_is in
-        let few : length all_apart.commits ≤ 200 = omega (arith, few_made caller moment named (log_of events) [], length_named ops words, mine.1.few) in
+        let few : length all_apart.commits ≤ 200 = omega (arith, few_made caller moment named (log_of events) [], length_named ops words, mine.1.meant.few) in
         let lawful = lawful_made caller moment (log_of events) named (histories_legal.lawful lock events kept.legal) (default_there (log_of events) key mine.0.in_default ones) (plain_named ops words mine.1.plain) in
         subst (IsKept lock) (sym grown) (kept_more lock seat events key all_apart.commits kept mine.0.of_lock all_formed few lawful)

@@ -1,9 +1,7 @@
 // A board: what answers the parts of requests, one lock at a time.
-ghost use Rattle.std.specs.Prelude.{◌≡◌, ◌<◌, ℕ, Option, length, IfOk, IfErr};
-ghost use Rattle.zone_model.specs.declared.events.Event.{Event};
-ghost use Rattle.zone_model.specs.Histories.{Histories};
+ghost use Rattle.std.specs.Prelude.{◌≡◌, ◌<◌, length, IfOk, IfErr};
 ghost use Rattle.board_model.specs.Parts.{MayBeAsked};
-ghost use Rattle.board_model.specs.Turns.{IsAsked, MayHaveAsked};
+ghost use Rattle.board_model.specs.Turns.{BoardState, AreLegal, IsAsked, MayHaveAsked};
 
 use board_model::{Answered, Part};
 use ck_base::NoMemory;
@@ -34,27 +32,25 @@ impl<T: Drop> From<AllocFailed<T>> for AskFault {
     }
 }
 
-/// Answers the parts of requests. It keeps a history of events for each of the 16 locks.
+/// Answers the parts of requests. It keeps a history of events for each of the 16 locks, which are
+/// legal.
 pub trait Board {
-    /// What each lock's history was when the board saw it last.
-    ghost history: { Self → Histories Event };
-
-    /// The number of the writer of its own events at each lock, from its first ask there on at latest.
-    ghost seats: { Self → ℕ → Option ℕ };
-
-    /// Nobody else adds to the histories.
-    ghost alone: { Self → Type 0 };
+    /// What it tells of itself.
+    ghost state: { Self → BoardState };
 
     /// Answers a part in one step at its lock, at the history that is found there.
     fn ask(&mut self, lock: u8, part: &Part) -> Result<Answered, AskFault>
         requires lock { lock < 16 }
         requires part { MayBeAsked lock part.now }
-        ensures asked { IfOk result (IsAsked (alone self.old) (seats self.old) (seats self.new) (history self.old) (history self.new) lock part.now) }
-        ensures failed { IfErr result (λ _. MayHaveAsked (alone self.old) (seats self.old) (seats self.new) (history self.old) (history self.new) lock part.now) }
-        ensures alone { alone self.old → alone self.new };
+        ensures asked { IfOk result (IsAsked (state self.old) (state self.new) lock part.now) }
+        ensures failed { IfErr result (λ _. MayHaveAsked (state self.old) (state self.new) lock part.now) };
 
     /// How long the history of the lock is, as far as the board has seen it.
     fn seen(&self, lock: u8) -> u64
         requires { lock < 16 }
-        ensures { result ≡ length (history self.now lock) };
+        ensures { result ≡ length ((state self.now).histories lock) };
+
+    /// Each history that the board has seen is legal. The call does nothing: its clause is a law.
+    fn hold_legal(&self)
+        ensures { AreLegal (state self.now).histories };
 }

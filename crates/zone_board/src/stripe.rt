@@ -1,5 +1,5 @@
 // One ask at the history of one lock.
-ghost use Rattle.std.specs.Prelude.{◌≡◌, ◌≤◌, ◌==◌, ℕ, ◌++◌, length, IfOk, OnErr};
+ghost use Rattle.std.specs.Prelude.{◌≡◌, ◌≤◌, ◌==◌, ◌++◌, length, IfOk, OnErr};
 ghost use Rattle.std.specs.List.{AllByRecursion};
 ghost use Rattle.zone_model.specs.Events.{origin_of, log_of, own};
 ghost use Rattle.zone_model.specs.OnePuts.{IsOnePut};
@@ -115,16 +115,17 @@ pub(crate) fn ask_stripe(
     alloc: Global,
     events: &mut Vec<Event>,
     seat: u64,
+    lock: u8,
     part: &Part,
 ) -> Result<Answered, AskFault>
-    requires part { (lock : ℕ) × MayBeAsked lock part.now }
+    requires part { MayBeAsked lock part.now }
     requires puts { AllByRecursion IsOnePut (log_of events.now.items) }
-    ensures made { IfOk result (λ _. events.new.items ≡ events.old.items ++ made seat events.old.items part.now) }
+    ensures made { IfOk result (λ _. events.new.items ≡ events.old.items ++ made lock seat events.old.items part.now) }
     ensures len { IfOk result (λ answered. answered.len ≡ length events.new.items) }
-    ensures event { IfOk result (λ answered. answered.event ≡ makes (commits_by events.old.items part.now)) }
-    ensures answer { IfOk result (λ answered. answered.answer ≡ answer (sight events.old.items part.now) part.now) }
+    ensures event { IfOk result (λ answered. answered.event ≡ makes (commits_by lock events.old.items part.now)) }
+    ensures answer { IfOk result (λ answered. answered.answer ≡ answer lock (sight lock events.old.items part.now) part.now) }
     ensures err { OnErr result (events.new.items ≡ events.old.items) }
-    ensures kept { (lock : ℕ) → MayBeAsked lock part.now → IsKept lock events.old.items → IsKept lock events.new.items }
+    ensures kept { IsKept lock events.old.items → IsKept lock events.new.items }
 {
     match part {
         Part::Modify {

@@ -11,15 +11,14 @@ use Rattle.record_model.specs.declared.records.Body.{Body}
 use Rattle.record_model.specs.declared.records.Body.TheVariants.{Plain, Share}
 use Rattle.zone_model.specs.declared.commits.Write.{Write}
 use Rattle.zone_model.specs.Names.{is_in, is_shared}
-use Rattle.zone_model.specs.Options.{or_else}
+use Rattle.name_rules.specs.Options.{or_else}
 use Rattle.zone_model.specs.Records.{record_at, names_in, is_there, is_share, IsAscending, with_record}
-use Rattle.zone_model.specs.Requests.{names_deleted}
+use Rattle.zone_model.specs.Requests.{names_deleted, puts_in}
 use Rattle.zone_model.specs.Zones.{after_write, written_name}
 use Rattle.zone_model.specs.Working.{mark_of, with_puts}
-use Rattle.zone_model.specs.Requests.{puts_in}
 use Rattle.zone_model.specs.Putting.{records_written}
 use Rattle.zone_model.specs.Effect.{Request, working, body_without, is_put, is_left, after_leaving, after_puts, is_unmarked, is_written, final, write_of, writes}
-use Rattle.zone_laws.proofs.NameLaws.{same-true}
+use Rattle.name_rules.proofs.NameLemmas.{same-true}
 use Rattle.zone_laws.proofs.OrderLaws.{ascending-some}
 use Rattle.zone_laws.proofs.RecordLaws.{found-name, found-kept, found-dropped, found-map, found-below, found-with, found-after, found-fold, EachOnce, settled, left_by, none-some}
 use Rattle.zone_laws.proofs.EffectLaws.{ascending-fold, names-map, leaving-name, write_by}
@@ -77,7 +76,7 @@ module _ (q : Request) (gone : List (List ℕ)) where
   named_step false true r w e = ap (λ o. option_map_or written_name o r.name) (sym e)
   named_step false false r w e = absurd (both_ways false refl (ap (λ o. option_map_or (λ _. true) o false) e))
 
-  write_named : (r : Record) (w : Write) → write_of q gone r ≡ Some w → written_name w ≡ r.name
+  pub write_named : (r : Record) (w : Write) → write_of q gone r ≡ Some w → written_name w ≡ r.name
   write_named r w e = named_step (is_in gone r.name) (is_written q gone r) r w e
 
   once_written : (rows : List Record) → IsAscending rows → EachOnce (λ (r : Record). r.name) (write_of q gone) after_write written_name left_by found-after write_named rows

@@ -13,7 +13,7 @@ use Rattle.zone_model.specs.Names.{same}
 use Rattle.zone_model.specs.Records.{is_there, IsAscending, with_record, names_in}
 use Rattle.zone_model.specs.Working.{is_share_of}
 use Rattle.zone_model.specs.Cascade.{is_due, due, reached}
-use Rattle.zone_laws.proofs.NameLaws.{same-true, same-sym_false}
+use Rattle.name_rules.proofs.NameLemmas.{same-true, same-sym_false}
 use Rattle.zone_laws.proofs.RecordLaws.{found-name, all-found, before_differs}
 use Rattle.zone_laws.proofs.JudgeLaws.{there-found}
 

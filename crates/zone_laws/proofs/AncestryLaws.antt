@@ -1,132 +1,48 @@
--- As many steps upward as there are records find all that is at or above a name, in a ring too.
-use Rattle.std.proofs.Common.{◌≡◌, ℕ, zero, suc, ◌<◌, ◌≤◌, List, [], ◌∷◌, Bool, true, false, cond, not, refl, sym, ap, ◌∙◌, subst, arith, Some, None, Option, length, inl, inr, ⊎_elim}
-use Rattle.std.specs.Prelude.{◌⊎◌, option_and_then}
-use Rattle.std.specs.Option.{option_map_or}
-use Rattle.std.proofs.lemmas.Bool.{both_ways, or_cases, or_left, or_right, cond-false}
+-- Ancestry and coverage over records, by their names and parents.
+use Rattle.std.proofs.Common.{◌≡◌, ℕ, List, [], ◌∷◌, Bool, true, false, cond, ◌||◌, refl, ap, ◌∙◌, Some, None, Option}
+use Rattle.std.specs.Prelude.{option_and_then}
+use Rattle.std.specs.List.{list_any, cons_option}
+use Rattle.name_rules.specs.Names.{same}
+use Rattle.name_rules.specs.Options.{is_some_and}
+use Rattle.name_rules.proofs.ParentLemmas.{is_above_from, is_above_gives}
+use Rattle.share_records.specs.declared.permission.Permission.{Permission}
+use Rattle.share_records.specs.declared.share.Share.{Share as ShareOf}
+use Rattle.share_records.specs.Covering.{reaches, gives_at}
 use Rattle.record_model.specs.declared.records.Record.{Record}
-use Rattle.zone_model.specs.Names.{same, is_in}
-use Rattle.zone_model.specs.Records.{record_at, without}
-use Rattle.zone_model.specs.Ancestry.{parent_at, IsAncestor, here, up, upward, is_ancestor}
-use Rattle.zone_laws.proofs.NameLaws.{same-true, same-refl, same-sym_false}
-
-at_start : (z : List Record) (a x : List ℕ) → same a x ≡ true → IsAncestor z a x
-at_start z a x e = here x (same-true a x e)
-
-from_parent : (n : ℕ) (z : List Record) (a x : List ℕ) (o : Option (List ℕ)) → ((p : List ℕ) → is_in (upward n z p) a ≡ true → IsAncestor z a p)
-    → parent_at z x ≡ o → is_in (option_map_or (upward n z) o []) a ≡ true → IsAncestor z a x
-from_parent n z a x None above is e = absurd (both_ways false refl e)
-from_parent n z a x (Some p) above is e = up x p is (above p e)
-
--- what the steps find is at or above the name
-pub above_from_upward : (n : ℕ) (z : List Record) (a x : List ℕ) → is_in (upward n z x) a ≡ true → IsAncestor z a x
-above_from_upward zero z a x e = ⊎_elim
-    (λ (s : same a x ≡ true). at_start z a x s)
-    (λ (n : false ≡ true). absurd (both_ways false refl n))
-    (or_cases (same a x) false e)
-above_from_upward (suc n) z a x e = ⊎_elim
-    (λ (s : same a x ≡ true). at_start z a x s)
-    (λ (m : is_in (option_map_or (upward n z) (parent_at z x) []) a ≡ true). from_parent n z a x (parent_at z x) (λ p i. above_from_upward n z a p i) refl m)
-    (or_cases (same a x) (is_in (option_map_or (upward n z) (parent_at z x) []) a) e)
-
--- ---- the records without one name
-
-gone_there_step : (b : Bool) (z : List Record) (r : Record) (x : List ℕ) → same x r.name ≡ b → record_at (without z x) x ≡ None → record_at (cond (not b) (r ∷ without z x) (without z x)) x ≡ None
-gone_there_step true z r x is ih = ih
-gone_there_step false z r x is ih = cond-false (same x r.name) (Some r) (record_at (without z x) x) is ∙ ih
-
-record_at-without : (z : List Record) (x : List ℕ) → record_at (without z x) x ≡ None
-record_at-without [] x = refl
-record_at-without (r ∷ z) x = gone_there_step (same x r.name) z r x refl (record_at-without z x)
-
-other_step : (b : Bool) (z : List Record) (r : Record) (x y : List ℕ) → same x r.name ≡ b → same x y ≡ false → record_at (without z x) y ≡ record_at z y
-    → record_at (cond (not b) (r ∷ without z x) (without z x)) y ≡ record_at (r ∷ z) y
-other_step true z r x y is ne ih = ih ∙ sym (cond-false (same y r.name) (Some r) (record_at z y) (subst (λ w. same y w ≡ false) (same-true x r.name is) (same-sym_false x y ne)))
-other_step false z r x y is ne ih = ap (λ o. cond (same y r.name) (Some r) o) ih
-
-record_at-without_other : (z : List Record) (x y : List ℕ) → same x y ≡ false → record_at (without z x) y ≡ record_at z y
-record_at-without_other [] x y ne = refl
-record_at-without_other (r ∷ z) x y ne = other_step (same x r.name) z r x y refl ne (record_at-without_other z x y ne)
-
-parent_kept_step : (b : Bool) (z : List Record) (x y q : List ℕ) → same x y ≡ b → parent_at (without z x) y ≡ Some q → parent_at z y ≡ Some q
-parent_kept_step true z x y q is e = absurd (both_ways false refl
-    (ap (λ (o : Option (List ℕ)). option_map_or (λ _. true) o false) (ap (option_and_then (λ (r : Record). r.parent)) (sym (record_at-without z x)) ∙ subst (λ w. parent_at (without z x) w ≡ Some q) (sym (same-true x y is)) e)))
-parent_kept_step false z x y q is e = ap (option_and_then (λ (r : Record). r.parent)) (sym (record_at-without_other z x y is)) ∙ e
-
-parent_kept : (z : List Record) (x y q : List ℕ) → parent_at (without z x) y ≡ Some q → parent_at z y ≡ Some q
-parent_kept z x y q e = parent_kept_step (same x y) z x y q refl e
-
-length_step : (b : Bool) (z : List Record) (r : Record) (x : List ℕ) → same x r.name ≡ b → length (without z x) ≤ length z → length (cond (not b) (r ∷ without z x) (without z x)) ≤ suc (length z)
-length_step true z r x is ih = omega (arith, ih)
-length_step false z r x is ih = omega (arith, ih)
-
-length-without : (z : List Record) (x : List ℕ) → length (without z x) ≤ length z
-length-without [] x = omega arith
-length-without (r ∷ z) x = length_step (same x r.name) z r x refl (length-without z x)
-
-shorter_step : (b : Bool) (z : List Record) (r : Record) (x p : List ℕ) → same x r.name ≡ b → (parent_at z x ≡ Some p → length (without z x) < length z)
-    → option_and_then (λ (q : Record). q.parent) (cond b (Some r) (record_at z x)) ≡ Some p → length (cond (not b) (r ∷ without z x) (without z x)) < suc (length z)
-shorter_step true z r x p is ih e = omega (arith, length-without z x)
-shorter_step false z r x p is ih e = omega (arith, ih e)
-
--- a name that has a parent has a record
-shorter : (z : List Record) (x p : List ℕ) → parent_at z x ≡ Some p → length (without z x) < length z
-shorter [] x p e = absurd (both_ways false refl (ap (λ o. option_map_or (λ _. true) o false) e))
-shorter (r ∷ z) x p e = shorter_step (same x r.name) z r x p refl (λ f. shorter z x p f) e
-
--- ---- a way upward that passes x goes on from its last pass without x's record
-
-abbrev PassesOnce : List Record → List ℕ → List ℕ → Type 0
-PassesOnce z a x = (p : List ℕ) × (parent_at z x ≡ Some p) × IsAncestor (without z x) a p
-
-last_pass_step : (b : Bool) (z : List Record) (a x y p : List ℕ) → same x y ≡ b → parent_at z y ≡ Some p → IsAncestor (without z x) a p ⊎ PassesOnce z a x → IsAncestor (without z x) a y ⊎ PassesOnce z a x
-last_pass_step true z a x y p is e (inl above) = inr (p, subst (λ w. parent_at z w ≡ Some p) (sym (same-true x y is)) e, above)
-last_pass_step false z a x y p is e (inl above) = inl (up y p (ap (option_and_then (λ (r : Record). r.parent)) (record_at-without_other z x y is) ∙ e) above)
-last_pass_step b z a x y p is e (inr once) = inr once
-
-last_pass : (z : List Record) (a x y : List ℕ) → IsAncestor z a y → IsAncestor (without z x) a y ⊎ PassesOnce z a x
-last_pass z a x _ (here y e) = inl (here y e)
-last_pass z a x _ (up y p e above) = last_pass_step (same x y) z a x y p refl e (last_pass z a x p above)
-
--- ---- the steps find all
-
-upward_grows_option : (n : ℕ) (z w : List Record) (a : List ℕ) (o : Option (List ℕ)) (x : List ℕ) → ((p : List ℕ) → parent_at w x ≡ Some p → parent_at z x ≡ Some p) → ((p : List ℕ) → is_in (upward n w p) a ≡ true → is_in (upward n z p) a ≡ true)
-    → parent_at w x ≡ o → is_in (option_map_or (upward n w) o []) a ≡ true → is_in (option_map_or (upward n z) (parent_at z x) []) a ≡ true
-upward_grows_option n z w a None x kept ih is e = absurd (both_ways false refl e)
-upward_grows_option n z w a (Some p) x kept ih is e = subst (λ o. is_in (option_map_or (upward n z) o []) a ≡ true) (sym (kept p is)) (ih p e)
-
-upward_grows : (n : ℕ) (z w : List Record) (a x : List ℕ) → ((y p : List ℕ) → parent_at w y ≡ Some p → parent_at z y ≡ Some p) → is_in (upward n w x) a ≡ true → is_in (upward n z x) a ≡ true
-upward_grows zero z w a x kept e = e
-upward_grows (suc n) z w a x kept e = ⊎_elim
-    (λ (s : same a x ≡ true). or_left (same a x) (is_in (option_map_or (upward n z) (parent_at z x) []) a) s)
-    (λ (m : is_in (option_map_or (upward n w) (parent_at w x) []) a ≡ true). or_right (same a x) (is_in (option_map_or (upward n z) (parent_at z x) []) a)
-    (upward_grows_option n z w a (parent_at w x) x (kept x) (λ p i. upward_grows n z w a p kept i) refl m))
-    (or_cases (same a x) (is_in (option_map_or (upward n w) (parent_at w x) []) a) e)
-
-starts : (n : ℕ) (z : List Record) (a : List ℕ) → is_in (upward n z a) a ≡ true
-starts zero z a = or_left (same a a) false (same-refl a)
-starts (suc n) z a = or_left (same a a) (is_in (option_map_or (upward n z) (parent_at z a) []) a) (same-refl a)
-
-by_pass : (n : ℕ) (z : List Record) (a x : List ℕ) → length z ≤ n → ((m : ℕ) → suc m ≡ n → (w : List Record) (p : List ℕ) → length w ≤ m → IsAncestor w a p → is_in (upward m w p) a ≡ true)
-    → PassesOnce z a x → is_in (upward n z x) a ≡ true
-by_pass zero z a x few ih once = absurd (omega (arith, few, shorter z x once.0 once.1))
-by_pass (suc n) z a x few ih once = or_right (same a x) (is_in (option_map_or (upward n z) (parent_at z x) []) a)
-    (subst (λ o. is_in (option_map_or (upward n z) o []) a ≡ true) (sym once.1)
-    (upward_grows n z (without z x) a once.0 (λ y p e. parent_kept z x y p e) (ih n refl (without z x) once.0 (omega (arith, few, shorter z x once.0 once.1)) once.2)))
-
-once_at : (z : List Record) (a x p : List ℕ) → parent_at z x ≡ Some p → IsAncestor (without z x) a p ⊎ PassesOnce z a x → PassesOnce z a x
-once_at z a x p e (inl above) = (p, e, above)
-once_at z a x p e (inr once) = once
-
-upward_from_above : (n : ℕ) (z : List Record) (a x : List ℕ) → length z ≤ n → IsAncestor z a x → is_in (upward n z x) a ≡ true
-upward_from_above n z a _ few (here x e) = subst (λ w. is_in (upward n z w) a ≡ true) e (starts n z a)
-upward_from_above zero z a _ few (up x p e above) = absurd (omega (arith, few, shorter z x p e))
-upward_from_above (suc n) z a _ few (up x p e above) = by_pass (suc n) z a x few
-    (λ m is w q short over. subst (λ k. is_in (upward k w q) a ≡ true) (omega (arith, is)) (upward_from_above n w a q (omega (arith, is, short)) over))
-    (once_at z a x p e (last_pass z a x p above))
+use Rattle.zone_model.specs.Records.{record_at, share_of}
+use Rattle.zone_model.specs.Ancestry.{links_of, parent_at, IsAncestor, is_ancestor}
+use Rattle.zone_model.specs.Coverage.{shares_in}
 
 -- the test and the relation say the same
 pub is_ancestor_from : (z : List Record) (a x : List ℕ) → IsAncestor z a x → is_ancestor z a x ≡ true
-is_ancestor_from z a x above = upward_from_above (length z) z a x (omega arith) above
+is_ancestor_from z a x above = is_above_from (links_of z) a x above
 
 pub is_ancestor_gives : (z : List Record) (a x : List ℕ) → is_ancestor z a x ≡ true → IsAncestor z a x
-is_ancestor_gives z a x e = above_from_upward (length z) z a x e
+is_ancestor_gives z a x e = is_above_gives (links_of z) a x e
+
+-- ---- the parent of a name is that of its record
+
+parent_step : (s : Bool) (r : Record) (o : Option (List ℕ × Option (List ℕ))) (w : Option Record) → option_and_then (λ (l : List ℕ × Option (List ℕ)). l.1) o ≡ option_and_then (λ (t : Record). t.parent) w
+    → option_and_then (λ (l : List ℕ × Option (List ℕ)). l.1) (cond s (Some (r.name, r.parent)) o) ≡ option_and_then (λ (t : Record). t.parent) (cond s (Some r) w)
+parent_step true r o w ih = refl
+parent_step false r o w ih = ih
+
+pub parent_of-record : (z : List Record) (x : List ℕ) → parent_at z x ≡ option_and_then (λ (r : Record). r.parent) (record_at z x)
+parent_of-record [] x = refl
+parent_of-record (r ∷ z) x = parent_step (same x r.name) r _ (record_at z x) (parent_of-record z x)
+
+-- ---- a share of the zone is that of some record
+
+abbrev pub record_reaches : List Record → Permission → List ℕ → List ℕ → Record → Bool
+record_reaches z least u x r = is_some_and (reaches (links_of z) least u x) (share_of r)
+
+any_share : (p : ShareOf → Bool) (o : Option ShareOf) (ss : List ShareOf) → list_any p (cons_option o ss) ≡ (is_some_and p o || list_any p ss)
+any_share p None ss = refl
+any_share p (Some s) ss = refl
+
+any_shares : (p : ShareOf → Bool) (z : List Record) → list_any p (shares_in z) ≡ list_any (λ (r : Record). is_some_and p (share_of r)) z
+any_shares p [] = refl
+any_shares p (r ∷ z) = any_share p (share_of r) (shares_in z) ∙ ap (λ b. is_some_and p (share_of r) || b) (any_shares p z)
+
+pub gives_at-records : (z : List Record) (least : Permission) (u x : List ℕ) → gives_at (links_of z) (shares_in z) least u x ≡ list_any (record_reaches z least u x) z
+gives_at-records z least u x = any_shares (reaches (links_of z) least u x) z

@@ -6,7 +6,7 @@ use Rattle.std.proofs.lemmas.Bool.{both_ways, or_cases, or_left, or_right, cases
 use Rattle.record_model.specs.declared.records.Record.{Record}
 use Rattle.zone_model.specs.Names.{same, is_in}
 use Rattle.zone_model.specs.Cascade.{takes_along, is_due, due, IsClosed, reached, removed_names, IsLeast}
-use Rattle.zone_laws.proofs.NameLaws.{any-within, IsWithin}
+use Rattle.name_rules.proofs.NameLemmas.{any-within, IsWithin}
 
 or-weaker : (a b c d : Bool) → (a ≡ true → c ≡ true) → (b ≡ true → d ≡ true) → (a || b) ≡ true → (c || d) ≡ true
 or-weaker a b c d f g e = ⊎_elim (λ (h : a ≡ true). or_left c d (f h)) (λ (h : b ≡ true). or_right c d (g h)) (or_cases a b e)

@@ -11,7 +11,7 @@ use Rattle.zone_model.specs.declared.outcomes.OpFault.{OpFault}
 use Rattle.zone_model.specs.declared.outcomes.OpFault.TheVariants.{Exists, NotFound, Conflict, BadRequest, AccessDenied, Validating, Atomic}
 use Rattle.zone_model.specs.declared.outcomes.Outcome.{Outcome}
 use Rattle.zone_model.specs.declared.outcomes.Outcome.TheVariants.{Put, Deleted, Refused}
-use Rattle.zone_model.specs.Options.{is_some_and, or_else}
+use Rattle.name_rules.specs.Options.{is_some_and, or_else}
 use Rattle.zone_model.specs.Records.{record_at, is_there}
 use Rattle.zone_model.specs.Requests.{Putting, is_deletion, is_forced, begins_share, makes_new, has_share_type, name_of_op, root_given, root_tag_given}
 use Rattle.zone_model.specs.Grounds.{Grounds, grounds_of, is_stale, first_fault}

@@ -13,14 +13,16 @@ use Rattle.record_model.specs.declared.records.Body.{Body}
 use Rattle.record_model.specs.declared.records.Body.TheVariants.{Plain, Share}
 use Rattle.zone_model.specs.declared.operations.Op.{Op}
 use Rattle.zone_model.specs.Names.{same}
-use Rattle.zone_model.specs.Options.{is_some_and, or_else}
-use Rattle.zone_model.specs.Records.{record_at, is_share, share_in, IsAscending}
+use Rattle.name_rules.specs.Options.{is_some_and, or_else}
+use Rattle.record_model.specs.RecordForms.{share_in}
+use Rattle.zone_model.specs.Records.{record_at, is_share, IsAscending}
 use Rattle.zone_model.specs.Requests.{Putting, name_of_put, makes_new, changes_old, puts_in, has_share_type, new_parent, root_given}
-use Rattle.zone_model.specs.Sharing.{share_after, first_share}
+use Rattle.zone_model.specs.Sharing.{share_after}
+use Rattle.share_records.specs.ShareLists.{first_share}
 use Rattle.zone_model.specs.Putting.{new_record, changed_record, written_over, body_after}
 use Rattle.zone_model.specs.Working.{working_view, mark_of, with_puts, is_share_of}
 use Rattle.zone_model.specs.Effect.{Request, working, body_without, is_put, is_left, after_leaving, after_puts}
-use Rattle.zone_laws.proofs.NameLaws.{same-true}
+use Rattle.name_rules.proofs.NameLemmas.{same-true}
 use Rattle.zone_laws.proofs.RecordLaws.{none-some}
 use Rattle.zone_laws.proofs.WorkingLaws.{put_at, put_over, record_written, found-working, blank, blank-put}
 use Rattle.zone_laws.proofs.AfterLaws.{found-after-puts}
@@ -102,6 +104,7 @@ pub record Changed (seen : List Record) (i : Option Putting) (v : Record) : Type
   pub parent : row.parent ≡ v.parent
   pub root : (core row).root ≡ (core v).root
   pub share : row.share ≡ v.share
+  pub created : row.created ≡ v.created
   pub unput : i ≡ None → row ≡ v
 
 changed_by : (seen : List Record) (b : Bool) (p : Putting) (v : Record) → record_written seen p ≡ (if b then Some (changed_record p v) else None) → Changed seen (Some p) v
@@ -111,12 +114,13 @@ changed_by seen true p v is = record {
   parent = refl;
   root = after_root v.body p.draft;
   share = refl;
+  created = refl;
   unput = λ e. absurd (none_put p (sym e));
 }
-changed_by seen false p v is = record { row = v; is = ap (λ o. option_map_or Some o (Some v)) is; parent = refl; root = refl; share = refl; unput = λ e. refl }
+changed_by seen false p v is = record { row = v; is = ap (λ o. option_map_or Some o (Some v)) is; parent = refl; root = refl; share = refl; created = refl; unput = λ e. refl }
 
 pub changed_at : (seen : List Record) (ps : List Putting) (x : List ℕ) (i : Option Putting) (v : Record) → put_at ps x ≡ i → record_at seen x ≡ Some v → Changed seen i v
-changed_at seen ps x None v at is = record { row = v; is = refl; parent = refl; root = refl; share = refl; unput = λ e. refl }
+changed_at seen ps x None v at is = record { row = v; is = refl; parent = refl; root = refl; share = refl; created = refl; unput = λ e. refl }
 changed_at seen ps x (Some p) v at is =
     let name : x ≡ name_of_put p = same-true x (name_of_put p) (put-name ps x p at) in
     changed_by seen (changes_old p.kind) p v (ap (written_over p) (ap (record_at seen) (sym name) ∙ is))

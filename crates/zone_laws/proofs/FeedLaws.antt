@@ -6,11 +6,11 @@ use Rattle.std.proofs.lemmas.List.{length-map}
 use Rattle.ck_base.specs.declared.scope.Scope.{Scope}
 use Rattle.zone_model.specs.declared.commits.Commit.{Commit}
 use Rattle.zone_model.specs.Names.{same_key}
-use Rattle.zone_model.specs.Pages.{choice}
+use Rattle.name_rules.specs.Choices.{choice}
 use Rattle.zone_model.specs.ZoneEntries.{zone_entries}
 use Rattle.zone_model.specs.ZoneFeed.{LockPage, changed_zone, lock_page, lock_pages}
 use Rattle.zone_laws.proofs.FormedLaws.{key-true}
-use Rattle.zone_laws.proofs.ChoiceLaws.{chosen_within, chosen_all, chosen_onward, chosen_kept}
+use Rattle.name_rules.proofs.ChoiceLemmas.{chosen_within, chosen_all, chosen_onward, chosen_kept}
 use Rattle.zone_laws.specs.Laws.{FeedsLoseNothing}
 
 none_of_either : (a b : Bool) → (a || b) ≡ false → (a ≡ false) × (b ≡ false)

@@ -1,9 +1,9 @@
 -- The forms of fields, participants and records stay.
-use Rattle.std.proofs.Common.{◌≡◌, ℕ, List, [], ◌∷◌, ◌++◌, Bool, true, false, cond, not, refl, sym, ap, ◌∙◌, subst, Some, None, Option, map}
-use Rattle.std.specs.Prelude.{filter, filter_map, fold, find, if◌then◌else◌, IfSome}
+use Rattle.std.proofs.Common.{◌≡◌, ℕ, suc, ◌+◌, ◌≤◌, ◌^◌, List, [], ◌∷◌, ◌++◌, length, Bool, true, false, cond, not, refl, sym, ap, ◌∙◌, subst, arith, Some, None, Option, map}
+use Rattle.std.specs.Prelude.{filter, filter_map, fold, find, nat_lt, if◌then◌else◌, IfSome}
 use Rattle.std.specs.Option.{option_map_or}
-use Rattle.std.specs.List.{list_all, cons_option, AllByRecursion}
-use Rattle.std.proofs.lemmas.Bool.{both_ways, and_parts, and_from}
+use Rattle.std.specs.List.{list_all, cons_option, sum_by, AllByRecursion}
+use Rattle.std.proofs.lemmas.Bool.{both_ways, and_parts, and_from, or_parts, ltb-true, ltb-false, lt-ltb}
 use Rattle.std.proofs.lemmas.List.{map-append}
 use Rattle.std.proofs.lemmas.Option.{same_Some}
 use Rattle.ck_base.specs.Names.{IsName}
@@ -11,6 +11,8 @@ use Rattle.ck_base.specs.Guids.{IsGuid}
 use Rattle.ck_base.specs.Order.{is_before, are_ascending}
 use Rattle.record_model.specs.declared.value.Value.{Value}
 use Rattle.record_model.specs.ValueForms.{IsMeant}
+use Rattle.record_model.specs.RecordSizes.{size_of_field}
+use Rattle.record_model.proofs.CountLemmas.{fields_counted}
 use Rattle.share_records.specs.declared.permission.Permission.{Permission}
 use Rattle.share_records.specs.declared.permission.Permission.TheVariants.{Nothing, ReadOnly, ReadWrite}
 use Rattle.share_records.specs.declared.participant.PartKind.{PartKind}
@@ -21,16 +23,18 @@ use Rattle.share_records.specs.declared.share.Share.{Share as ShareOf}
 use Rattle.record_model.specs.declared.draft.Draft.{Draft}
 use Rattle.record_model.specs.declared.records.Body.{Body}
 use Rattle.record_model.specs.declared.records.Body.TheVariants.{Plain, Share}
-use Rattle.record_model.specs.DraftForms.{may_have}
-use Rattle.record_model.specs.DraftForms.{IsWish, IsWanted}
+use Rattle.record_model.specs.DraftForms.{may_have, IsWish, IsWanted}
 use Rattle.record_model.specs.RecordForms.{IsField, AreFields, is_kept, IsParticipant, AreParticipants, IsShare, IsBodyOf}
+use Rattle.zone_model.specs.Limits.{most_participants, most_record_size}
 use Rattle.zone_model.specs.Names.{same, with_name}
-use Rattle.zone_model.specs.Options.{is_some_and}
-use Rattle.zone_model.specs.Same.{is_public}
-use Rattle.zone_model.specs.Sharing.{participant_at, kept_as, with_participant, rewritten, share_after, first_share}
+use Rattle.name_rules.specs.Options.{is_some_and}
+use Rattle.share_records.specs.Permissions.{is_public}
+use Rattle.zone_model.specs.Sharing.{share_after}
+use Rattle.share_records.specs.ShareLists.{participant_at, kept_as, with_participant, rewritten, is_refused_list, first_share}
+use Rattle.share_records.proofs.ListLemmas.{refused-is}
 use Rattle.zone_model.specs.Putting.{after_wish, after_wishes, body_after}
 use Rattle.zone_model.specs.Effect.{body_without}
-use Rattle.zone_laws.proofs.NameLaws.{before-trans}
+use Rattle.name_rules.proofs.NameLemmas.{before-trans, before-asym}
 
 -- ---- names in order
 
@@ -115,27 +119,81 @@ every-found P t (x ∷ xs) y all e = found_step (t x) P x y (find t xs) all.0 (e
 
 -- ---- fields
 
-one_wish : (fields : List (List ℕ × Value)) (x : List ℕ) (o : Option Value) → AreFields fields → IsName x → IfSome o IsMeant → AreFields (after_wish fields (x, o))
+-- each has its form, and their names ascend
+abbrev pub AreInOrder : List (List ℕ × Value) → Type 0
+AreInOrder fields = AllByRecursion IsField fields × (are_ascending (map (λ (f : List ℕ × Value). f.0) fields) ≡ true)
+
+one_wish : (fields : List (List ℕ × Value)) (x : List ℕ) (o : Option Value) → AreInOrder fields → IsName x → IfSome o IsMeant → AreInOrder (after_wish fields (x, o))
 one_wish fields x None are name meant = (every-filter IsField _ fields are.0, subst (λ ns. are_ascending ns ≡ true) (sym (map-filter (λ (f : List ℕ × Value). f.0) (λ y. not (same x y)) fields)) (names-some (λ y. not (same x y)) (map (λ (f : List ℕ × Value). f.0) fields) are.1))
 one_wish fields x (Some v) are name meant = (
   every-append IsField _ _ (every-filter IsField _ fields are.0) ((name, meant), every-filter IsField _ fields are.0),
   subst (λ ns. are_ascending ns ≡ true) (sym (map-with (λ (f : List ℕ × Value). f.0) fields (x, v))) (names-with (map (λ (f : List ℕ × Value). f.0) fields) x are.1),
 )
 
--- fields stay fields
-pub fields-form : (wishes : List (List ℕ × Option Value)) (fields : List (List ℕ × Value)) → AllByRecursion IsWish wishes → AreFields fields → AreFields (after_wishes fields wishes)
-fields-form [] fields all are = are
-fields-form (w ∷ wishes) fields all are = fields-form wishes (after_wish fields w) all.1 (one_wish fields w.0 w.1 are all.0.0 all.0.1)
+all_wishes : (wishes : List (List ℕ × Option Value)) (fields : List (List ℕ × Value)) → AllByRecursion IsWish wishes → AreInOrder fields → AreInOrder (after_wishes fields wishes)
+all_wishes [] fields all are = are
+all_wishes (w ∷ wishes) fields all are = all_wishes wishes (after_wish fields w) all.1 (one_wish fields w.0 w.1 are all.0.0 all.0.1)
+
+-- fields stay fields, where they are not too large
+pub fields-form : (wishes : List (List ℕ × Option Value)) (fields : List (List ℕ × Value)) → AllByRecursion IsWish wishes → AreInOrder fields
+    → nat_lt most_record_size (sum_by size_of_field (after_wishes fields wishes)) ≡ false → AreFields (after_wishes fields wishes)
+fields-form wishes fields all are small =
+    let ordered = all_wishes wishes fields all are in
+    let size = ltb-false most_record_size (sum_by size_of_field (after_wishes fields wishes)) small in
+    (ordered.0, ordered.1, fields_counted (after_wishes fields wishes) (omega (arith, size)))
+
+-- ---- counts
+
+few_step : {X : Type 0} (a b : Bool) (x : X) (xs ys : List X) (n : ℕ) → (a ≡ true → b ≡ false) → length xs + length ys ≤ n → length (cond a (x ∷ xs) xs) + length (cond b (x ∷ ys) ys) ≤ suc n
+few_step true true x xs ys n apart few = absurd (both_ways true (apart refl) refl)
+few_step true false x xs ys n apart few = omega (arith, few)
+few_step false true x xs ys n apart few = omega (arith, few)
+few_step false false x xs ys n apart few = omega (arith, few)
+
+-- of two tests that nothing passes both
+few-filtered : {X : Type 0} (p t : X → Bool) → ((x : X) → p x ≡ true → t x ≡ false) → (xs : List X) → length (filter p xs) + length (filter t xs) ≤ length xs
+few-filtered p t apart [] = omega arith
+few-filtered p t apart (x ∷ xs) = few_step (p x) (t x) x (filter p xs) (filter t xs) (length xs) (apart x) (few-filtered p t apart xs)
+
+pub few_filter : {X : Type 0} (t : X → Bool) (xs : List X) → length (filter t xs) ≤ length xs
+few_filter t xs = omega (arith, few-filtered t (λ x. false) (λ x e. refl) xs)
+
+few_joined : {X : Type 0} (xs : List X) (y : X) (ys : List X) → length (xs ++ y ∷ ys) ≡ suc (length xs + length ys)
+few_joined [] y ys = omega arith
+few_joined (x ∷ xs) y ys = omega (arith, few_joined xs y ys)
+
+few_with : (ps : List Participant) (p : Participant) → length (with_participant ps p) ≤ suc (length ps)
+few_with ps p = omega (
+  arith,
+  few_joined (filter (λ (q : Participant). is_before q.user p.user) ps) p (filter (λ (q : Participant). is_before p.user q.user) ps),
+  few-filtered (λ (q : Participant). is_before q.user p.user) (λ q. is_before p.user q.user) (λ q e. before-asym q.user p.user e) ps,
+)
+
+few_after : (some ps : List Participant) → length (fold with_participant ps some) ≤ length ps + length some
+few_after [] ps = omega arith
+few_after (p ∷ some) ps = omega (arith, few_after some (with_participant ps p), few_with ps p)
+
+few_option : {X : Type 0} (o : Option X) (xs : List X) → length (cons_option o xs) ≤ suc (length xs)
+few_option None xs = omega arith
+few_option (Some x) xs = omega arith
+
+few_mapped : {X Y : Type 0} (f : X → Option Y) (xs : List X) → length (filter_map f xs) ≤ length xs
+few_mapped f [] = omega arith
+few_mapped f (x ∷ xs) = omega (arith, few_option (f x) (filter_map f xs), few_mapped f xs)
 
 -- ---- participants
 
-with_form : (ps : List Participant) (p : Participant) → AreParticipants ps → IsParticipant p → AreParticipants (with_participant ps p)
+-- each has its form, and their names ascend
+abbrev AreListed : List Participant → Type 0
+AreListed ps = AllByRecursion IsParticipant ps × (are_ascending (map (λ (p : Participant). p.user) ps) ≡ true)
+
+with_form : (ps : List Participant) (p : Participant) → AreListed ps → IsParticipant p → AreListed (with_participant ps p)
 with_form ps p are one = (
   every-append IsParticipant _ _ (every-filter IsParticipant _ ps are.0) (one, every-filter IsParticipant _ ps are.0),
   subst (λ ns. are_ascending ns ≡ true) (sym (map-with (λ (r : Participant). r.user) ps p)) (names-with (map (λ (r : Participant). r.user) ps) p.user are.1),
 )
 
-all_with : (some ps : List Participant) → AllByRecursion IsParticipant some → AreParticipants ps → AreParticipants (fold with_participant ps some)
+all_with : (some ps : List Participant) → AllByRecursion IsParticipant some → AreListed ps → AreListed (fold with_participant ps some)
 all_with [] ps all are = are
 all_with (p ∷ some) ps all are = all_with some (with_participant ps p) all.1 (with_form ps p are all.0)
 
@@ -160,21 +218,32 @@ all_kept old [] are all = tt
 all_kept old (w ∷ wanted) are all = kept_form w.kind w (participant_at old w.user) (filter_map (λ (v : Wanted). kept_as v.kind v (participant_at old v.user)) wanted) all.0.0 all.0.1
     (λ p e. every-found IsParticipant (λ (r : Participant). same w.user r.user) old p are e) (all_kept old wanted are all.1)
 
-list_form : (old : List Participant) (o : Option (List Wanted)) → AreParticipants old → IfSome o (AllByRecursion IsWanted) → AreParticipants (option_map_or (rewritten old) o old)
-list_form old None are all = are
-list_form old (Some wanted) are all = all_with (filter_map (λ (w : Wanted). kept_as w.kind w (participant_at old w.user)) wanted) [] (all_kept old wanted are.0 all) (tt, refl)
+-- a list that isn't refused
+abbrev pub IsTaken : List ℕ → Draft → Type 0
+IsTaken owner d = is_some_and (is_refused_list owner) d.participants ≡ false
+
+list_form : (owner : List ℕ) (old : List Participant) (o : Option (List Wanted)) → is_some_and (is_refused_list owner) o ≡ false → AreParticipants old → IfSome o (AllByRecursion IsWanted)
+    → AreParticipants (option_map_or (rewritten old) o old)
+list_form owner old None taken are all = are
+list_form owner old (Some wanted) taken are all =
+    let some = filter_map (λ (w : Wanted). kept_as w.kind w (participant_at old w.user)) wanted in
+    let listed = all_with some [] (all_kept old wanted are.0 all) (tt, refl) in
+    let few = ltb-false most_participants (length wanted) (or_parts (nat_lt most_participants (length wanted)) _ (sym (refused-is owner wanted) ∙ taken)).0 in
+    let count = lt-ltb (length (rewritten old wanted)) (2 ^ 16)
+    (omega (arith, few, few_after some [], few_mapped (λ (w : Wanted). kept_as w.kind w (participant_at old w.user)) wanted)) in
+    (listed.0, listed.1, count)
 
 -- ---- shares
 
-pub share-form : (s : ShareOf) (d : Draft) → IsShare s → IfSome d.participants (AllByRecursion IsWanted) → IsShare (share_after s d)
-share-form s d is all = record { root = is.root; guid = is.guid; participants = list_form s.participants d.participants is.participants all }
+pub share-form : (owner : List ℕ) (s : ShareOf) (d : Draft) → IsTaken owner d → IsShare s → IfSome d.participants (AllByRecursion IsWanted) → IsShare (share_after s d)
+share-form owner s d taken is all = record { root = is.root; guid = is.guid; participants = list_form owner s.participants d.participants taken is.participants all }
 
 pub first-form : (root guid : List ℕ) → IsName root → IsGuid guid → IsShare (first_share root guid)
-first-form root guid name is = record { root = name; guid = is; participants = (tt, refl) }
+first-form root guid name is = record { root = name; guid = is; participants = (tt, refl, refl) }
 
-pub body-form : (rtype : List ℕ) (b : Body) (d : Draft) → IsBodyOf rtype b → IfSome d.participants (AllByRecursion IsWanted) → IsBodyOf rtype (body_after b d)
-body-form rtype Plain d is all = is
-body-form rtype (Share s) d is all = (is.0, share-form s d is.1 all)
+pub body-form : (owner rtype : List ℕ) (b : Body) (d : Draft) → IsTaken owner d → IsBodyOf rtype b → IfSome d.participants (AllByRecursion IsWanted) → IsBodyOf rtype (body_after b d)
+body-form owner rtype Plain d taken is all = is
+body-form owner rtype (Share s) d taken is all = (is.0, share-form owner s d taken is.1 all)
 
 -- without a user it is a share still
 pub body-left : (rtype : List ℕ) (b : Body) (u : List ℕ) → IsBodyOf rtype b → IsBodyOf rtype (body_without u b)
@@ -188,6 +257,7 @@ body-left rtype (Share s) u is = (
       every-filter IsParticipant _ s.participants is.1.participants.0,
       subst (λ ns. are_ascending ns ≡ true) (sym (map-filter (λ (p : Participant). p.user) (λ y. not (same u y)) s.participants))
           (names-some (λ y. not (same u y)) (map (λ (p : Participant). p.user) s.participants) is.1.participants.1),
+      lt-ltb _ _ (omega (arith, ltb-true (length s.participants) (2 ^ 16) is.1.participants.2, few_filter (λ (p : Participant). not (same u p.user)) s.participants)),
     );
   },
 )

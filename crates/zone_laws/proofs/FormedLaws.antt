@@ -16,28 +16,30 @@ use Rattle.zone_model.specs.declared.commits.Act.{Act}
 use Rattle.zone_model.specs.declared.commits.Act.TheVariants.{Writes, MakeZone, DropZone, SetSubscription, DropSubscription}
 use Rattle.zone_model.specs.declared.commits.Commit.{Commit}
 use Rattle.zone_model.specs.Names.{same, same_key, is_default}
-use Rattle.zone_model.specs.Options.{is_some_and}
+use Rattle.name_rules.specs.Options.{is_some_and}
 use Rattle.zone_model.specs.Records.{record_at, names_in, is_share, share_of, IsAscending}
 use Rattle.zone_model.specs.Zones.{Zone, zone_at, after_act, puts_at}
 use Rattle.zone_model.specs.Subscriptions.{subscriptions_at}
-use Rattle.zone_model.specs.Ancestry.{up, is_ancestor, parent_at}
-use Rattle.zone_model.specs.Coverage.{gives, reaches, covers, has_accepted}
+use Rattle.zone_model.specs.Ancestry.{is_ancestor, parent_at}
+use Rattle.name_rules.specs.Parents.{up}
+use Rattle.zone_model.specs.Coverage.{covers}
+use Rattle.share_records.specs.Permissions.{gives, has_accepted}
 use Rattle.zone_model.specs.Views.{nowhere, is_visible, owner_view, participant_view, view_of_zone, view_of}
 use Rattle.zone_model.specs.Lawful.{are_well_formed, is_lawful_act, is_lawful, are_lawful}
-use Rattle.zone_laws.proofs.NameLaws.{same-true, any-weaker}
+use Rattle.name_rules.proofs.NameLemmas.{same-true, any-weaker}
 use Rattle.zone_laws.proofs.OrderLaws.{ascending-zone}
-use Rattle.zone_laws.proofs.AncestryLaws.{is_ancestor_from, is_ancestor_gives}
+use Rattle.zone_laws.proofs.AncestryLaws.{is_ancestor_from, is_ancestor_gives, parent_of-record, record_reaches, gives_at-records}
 use Rattle.zone_laws.proofs.LogLaws.{zone-snoc}
 use Rattle.zone_laws.proofs.EntryLaws.{Grown, empty, one_more, grown}
 use Rattle.zone_laws.proofs.RecordLaws.{found-name, found-below, none-some}
 
 -- ---- lawful logs
 
-lawful_parts : (before log : List Commit) (c : Commit) → are_lawful before (log ++ c ∷ []) ≡ true → (are_lawful before log ≡ true) × (is_lawful (before ++ log) c ≡ true)
-lawful_parts before [] c all = (refl, subst (λ l. is_lawful l c ≡ true) (sym (append-nil before)) (and_parts (is_lawful before c) true all).0)
-lawful_parts before (d ∷ log) c all =
+pub lawful-parts : (before log : List Commit) (c : Commit) → are_lawful before (log ++ c ∷ []) ≡ true → (are_lawful before log ≡ true) × (is_lawful (before ++ log) c ≡ true)
+lawful-parts before [] c all = (refl, subst (λ l. is_lawful l c ≡ true) (sym (append-nil before)) (and_parts (is_lawful before c) true all).0)
+lawful-parts before (d ∷ log) c all =
     let parts = and_parts (is_lawful before d) _ all in
-    let rest = lawful_parts (before ++ d ∷ []) log c parts.1 in
+    let rest = lawful-parts (before ++ d ∷ []) log c parts.1 in
     (and_from (is_lawful before d) _ parts.0 rest.0, subst (λ l. is_lawful l c ≡ true) (append_assoc before (d ∷ []) log) rest.1)
 
 pub key-true : (k l : ZoneKey) → same_key k l ≡ true → k ≡ l
@@ -63,7 +65,7 @@ formed_step false log c key is lawful formed = formed key
 formed_grown : (log : List Commit) → Grown log → are_lawful [] log ≡ true → (key : ZoneKey) → are_well_formed (zone_at log key).rows ≡ true
 formed_grown _ empty lawful key = refl
 formed_grown _ (one_more log c before) lawful key =
-    let parts = lawful_parts [] log c lawful in
+    let parts = lawful-parts [] log c lawful in
     subst (λ (z : Zone). are_well_formed z.rows ≡ true) (sym (zone-snoc log c key)) (formed_step (same_key key c.key) log c key refl parts.1 (formed_grown log before parts.0))
 
 -- after lawful commits the records of each zone fit together
@@ -119,12 +121,13 @@ reaches_step : (rows : List Record) (u x p : List ℕ) (r : Record) (o : Option 
 reaches_step rows u x p r None is parent e = e
 reaches_step rows u x p r (Some s) is parent e =
     let parts = and_parts (is_ancestor rows s.root p) _ e in
-    let at : parent_at rows x ≡ Some p = ap (option_and_then (λ (t : Record). t.parent)) is ∙ parent in
+    let at : parent_at rows x ≡ Some p = parent_of-record rows x ∙ ap (option_and_then (λ (t : Record). t.parent)) is ∙ parent in
     and_from (is_ancestor rows s.root x) _ (is_ancestor_from rows s.root x (up x p at (is_ancestor_gives rows s.root p parts.0))) parts.1
 
 -- what covers a record covers those right below it
 covers_below : (rows : List Record) (u x p : List ℕ) (r : Record) → record_at rows x ≡ Some r → r.parent ≡ Some p → covers rows u p ≡ true → covers rows u x ≡ true
-covers_below rows u x p r is parent e = any-weaker (reaches rows ReadOnly u p) (reaches rows ReadOnly u x) (λ s. reaches_step rows u x p r (share_of s) is parent) rows e
+covers_below rows u x p r is parent e = gives_at-records rows ReadOnly u x
+    ∙ any-weaker (record_reaches rows ReadOnly u p) (record_reaches rows ReadOnly u x) (λ s. reaches_step rows u x p r (share_of s) is parent) rows (sym (gives_at-records rows ReadOnly u p) ∙ e)
 
 plain_step : (u : List ℕ) (b : Bool) (o : Option ShareOf) → is_some o ≡ false → (b || is_some_and (has_accepted u) o) ≡ true → b ≡ true
 plain_step u true o plain e = refl

@@ -10,17 +10,18 @@ use Rattle.record_model.specs.declared.value.Value.{Value}
 use Rattle.record_model.specs.declared.records.Record.{Record}
 use Rattle.zone_model.specs.declared.operations.Past.{Past}
 use Rattle.zone_model.specs.Names.{same, is_in}
-use Rattle.zone_model.specs.Options.{is_some_and}
+use Rattle.name_rules.specs.Options.{is_some_and}
 use Rattle.zone_model.specs.Records.{record_at, is_share}
 use Rattle.zone_model.specs.References.{goes_with, wants, references_in, deletes_self}
-use Rattle.zone_model.specs.Ancestry.{is_ancestor, here}
+use Rattle.zone_model.specs.Ancestry.{is_ancestor}
+use Rattle.name_rules.specs.Parents.{here}
 use Rattle.zone_model.specs.Requests.{Putting, name_of_put, puts_in, names_deleted}
 use Rattle.zone_model.specs.Working.{mark_of, with_puts, is_share_of}
 use Rattle.zone_model.specs.Grounds.{is_taken_by_deletion}
 use Rattle.zone_model.specs.DeletionChecks.{holds_back}
 use Rattle.zone_model.specs.Cascade.{takes_along}
 use Rattle.zone_model.specs.Effect.{Request, working, is_put, is_new_share_of, after_leaving, after_puts, removed}
-use Rattle.zone_laws.proofs.NameLaws.{same-true, same-refl, any-weaker, any-within}
+use Rattle.name_rules.proofs.NameLemmas.{same-true, same-refl, any-weaker, any-within}
 use Rattle.zone_laws.proofs.AncestryLaws.{is_ancestor_from}
 use Rattle.zone_laws.proofs.RecordLaws.{found-name}
 use Rattle.zone_laws.proofs.WorkingLaws.{put_at, put_over, found-working}

@@ -13,7 +13,7 @@ use Rattle.zone_model.specs.declared.outcomes.OpFault.{OpFault}
 use Rattle.zone_model.specs.declared.outcomes.OpFault.TheVariants.{Exists, NotFound, Conflict, BadRequest, AccessDenied, Validating, Atomic}
 use Rattle.zone_model.specs.declared.commits.Commit.{Commit}
 use Rattle.zone_model.specs.Names.{same, is_in, distinct}
-use Rattle.zone_model.specs.Options.{is_some_and}
+use Rattle.name_rules.specs.Options.{is_some_and}
 use Rattle.zone_model.specs.Records.{record_at, is_there}
 use Rattle.zone_model.specs.Zones.{zone_at}
 use Rattle.zone_model.specs.Past.{past_of, name_history, is_taken}
@@ -22,7 +22,7 @@ use Rattle.zone_model.specs.Grounds.{Grounds, first_fault}
 use Rattle.zone_model.specs.PutChecks.{is_in_view, is_hidden, has_shared_root, is_missing, is_in_conflict, lacks_type, turns_type, turns_parent, lacks_root, is_misplaced_share, is_of_share, has_share_members, has_refused_list, is_too_large, has_bad_form, is_denied, has_bad_parent, has_bad_root, is_dangling, is_name_taken, fault_of_put}
 use Rattle.zone_model.specs.DeletionChecks.{holds_back, fault_of_deletion, is_held_back, is_missing as lacks, is_in_conflict as is_in_conflict_with, is_denied as is_denied_deletion}
 use Rattle.zone_model.specs.Judging.{faults_from, has_fault, together}
-use Rattle.zone_laws.proofs.NameLaws.{same-true}
+use Rattle.name_rules.proofs.NameLemmas.{same-true}
 use Rattle.zone_laws.proofs.WorkingLaws.{put_at}
 
 -- ---- checks one after another
@@ -108,11 +108,12 @@ pub record Passed (g : Grounds) (p : Putting) : Type 0 where
   pub placed : is_misplaced_share g p ≡ false
   pub listed : has_refused_list g p ≡ false
   pub small : is_too_large g p ≡ false
+  pub permitted : is_denied g p ≡ false
   pub parent_good : has_bad_parent g p ≡ false
   pub root_good : has_bad_root g p ≡ false
 
-passed_from : (g : Grounds) (p : Putting) (earlier : List (List ℕ)) → fault_of_put g p earlier ≡ None → Passed g p
-passed_from g p earlier e =
+pub passed-from : (g : Grounds) (p : Putting) (earlier : List (List ℕ)) → fault_of_put g p earlier ≡ None → Passed g p
+passed-from g p earlier e =
     let all = six_pass (is_name_taken g p earlier) (is_missing g p) (is_in_conflict g p) (has_bad_form g p) (is_denied g p) (is_dangling g p) e in
     let a = or_parts (is_in_view g p) _ all.0 in
     let b = or_parts (is_hidden g p) _ a.1 in
@@ -136,12 +137,13 @@ passed_from g p earlier e =
       placed = f5.0;
       listed = f7.0;
       small = f7.1;
+      permitted = all.4;
       parent_good = d.0;
       root_good = r.0;
     }
 
 pub put-passed : (g : Grounds) (ops : List Op) (x : List ℕ) (p : Putting) → has_fault (faults_from g [] ops) ≡ false → put_at (puts_in ops []) x ≡ Some p → Passed g p
-put-passed g ops x p none at = let one = put-passes g ops [] x p none at in passed_from g p one.0 one.1
+put-passed g ops x p none at = let one = put-passes g ops [] x p none at in passed-from g p one.0 one.1
 
 -- ---- deletions
 
@@ -201,7 +203,7 @@ distinct_step : (b : Bool) (y x : List ℕ) (ys : List (List ℕ)) → is_in ys 
 distinct_step true y x ys is ih i = ih (⊎_elim (λ (s : same x y ≡ true). subst (λ z. is_in ys z ≡ true) (sym (same-true x y s)) is) (λ (t : is_in ys x ≡ true). t) (or_cases (same x y) (is_in ys x) i))
 distinct_step false y x ys is ih i = ⊎_elim (λ (s : same x y ≡ true). or_left (same x y) (is_in (distinct ys) x) s) (λ (t : is_in ys x ≡ true). or_right (same x y) (is_in (distinct ys) x) (ih t)) (or_cases (same x y) (is_in ys x) i)
 
-in_distinct : (ys : List (List ℕ)) (x : List ℕ) → is_in ys x ≡ true → is_in (distinct ys) x ≡ true
+pub in_distinct : (ys : List (List ℕ)) (x : List ℕ) → is_in ys x ≡ true → is_in (distinct ys) x ≡ true
 in_distinct [] x i = i
 in_distinct (y ∷ ys) x i = distinct_step (is_in ys y) y x ys refl (in_distinct ys x) i
 

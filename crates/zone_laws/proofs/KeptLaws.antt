@@ -8,7 +8,7 @@ use Rattle.std.proofs.lemmas.Option.{same_Some}
 use Rattle.record_model.specs.declared.records.Record.{Record}
 use Rattle.zone_model.specs.declared.operations.Past.{Past}
 use Rattle.zone_model.specs.Names.{same, has_twice}
-use Rattle.zone_model.specs.Options.{or_else}
+use Rattle.name_rules.specs.Options.{or_else}
 use Rattle.zone_model.specs.Records.{record_at, is_there, IsAscending}
 use Rattle.zone_model.specs.Requests.{roots_in, Putting, name_of_put, makes_new, puts_in}
 use Rattle.zone_model.specs.Past.{is_taken}
@@ -18,7 +18,7 @@ use Rattle.zone_model.specs.PutChecks.{is_new}
 use Rattle.zone_model.specs.Judging.{faults_from, has_fault}
 use Rattle.zone_model.specs.Lawful.{fits_in, are_well_formed}
 use Rattle.zone_model.specs.Effect.{Request, working, is_put, is_new_share_of, after_leaving, after_puts}
-use Rattle.zone_laws.proofs.NameLaws.{same-true}
+use Rattle.name_rules.proofs.NameLemmas.{same-true}
 use Rattle.zone_laws.proofs.RecordLaws.{none-some, found-all}
 use Rattle.zone_laws.proofs.WorkingLaws.{put_at, put_over, blank, blank-put}
 use Rattle.zone_laws.proofs.AfterLaws.{found-after-puts}

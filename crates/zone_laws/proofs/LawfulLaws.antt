@@ -12,10 +12,12 @@ use Rattle.zone_model.specs.declared.commits.Write.{Write}
 use Rattle.zone_model.specs.declared.commits.Act.TheVariants.{Writes}
 use Rattle.zone_model.specs.declared.commits.Commit.{Commit}
 use Rattle.zone_model.specs.Names.{same, same_option, is_in, has_twice, is_default}
-use Rattle.zone_model.specs.Options.{is_some_and, is_none_or, or_else}
-use Rattle.zone_model.specs.Records.{record_at, is_there, is_share, share_in, share_of, IsAscending}
+use Rattle.name_rules.specs.Options.{is_some_and, is_none_or, or_else}
+use Rattle.record_model.specs.RecordForms.{share_in}
+use Rattle.zone_model.specs.Records.{record_at, is_there, is_share, share_of, IsAscending}
 use Rattle.zone_model.specs.Zones.{Zone, zone_at, after_write, after_act}
-use Rattle.zone_model.specs.Ancestry.{IsAncestor, here, up, is_ancestor}
+use Rattle.zone_model.specs.Ancestry.{IsAncestor, is_ancestor}
+use Rattle.name_rules.specs.Parents.{here, up}
 use Rattle.zone_model.specs.Views.{is_empty}
 use Rattle.zone_model.specs.Past.{name_history}
 use Rattle.zone_model.specs.Requests.{roots_in, Caller, Putting, is_deletion, first_guid, guids_left, root_given}
@@ -26,7 +28,8 @@ use Rattle.zone_model.specs.Effect.{Request, working, is_put, after_leaving, aft
 use Rattle.zone_model.specs.Modifying.{request_at, judgement_at, effect_at, modified_as_one, modified_apart}
 use Rattle.zone_model.specs.Lawful.{is_plain, is_marked_with, has_good_parent, has_good_root, has_good_mark, is_within_limits, fits_in, are_well_formed, has_next_tag, has_its_place, is_lawful_write, is_lawful, are_lawful}
 use Rattle.zone_laws.specs.Laws.{EffectsAreLawful}
-use Rattle.zone_laws.proofs.NameLaws.{same-true, same-refl, key-refl}
+use Rattle.zone_laws.proofs.NameLaws.{key-refl}
+use Rattle.name_rules.proofs.NameLemmas.{same-true, same-refl}
 use Rattle.zone_laws.proofs.SameLaws.{option-refl}
 use Rattle.zone_laws.proofs.AncestryLaws.{is_ancestor_gives}
 use Rattle.zone_laws.proofs.LogLaws.{zone-snoc}

@@ -1,8 +1,8 @@
--- names, their order and lists of them
+-- names and keys
 pub mod NameLaws
 -- records that compare alike
 pub mod SameLaws
--- all that is at or above a name is found
+-- ancestry and coverage over records
 pub mod AncestryLaws
 -- the removed names are the least closed set
 pub mod CascadeLaws
@@ -42,8 +42,6 @@ pub mod RootLaws
 pub mod SizeLaws
 -- what a request commits is lawful
 pub mod LawfulLaws
--- what a page lists, of names or of zones
-pub mod ChoiceLaws
 -- copies with a page's items
 pub mod PageLaws
 -- copies stay in step as the log grows
@@ -68,3 +66,15 @@ pub mod StoredLaws
 pub mod ConflictLaws
 -- what the shared scope permits
 pub mod SharedLaws
+-- tags count puts, and parents are kept
+pub mod LifeLaws
+-- nobody is let in by a rewritten list
+pub mod PeopleLaws
+-- pages, feeds and what was seen, as histories grow
+pub mod FollowLaws
+-- one outcome for each operation
+pub mod AnswerLaws
+-- what a request writes
+pub mod WrittenLaws
+-- something is committed just where some outcome tells of something written
+pub mod MadeLaws

@@ -10,13 +10,13 @@ use Rattle.share_records.specs.declared.share.Share.{Share as ShareOf}
 use Rattle.record_model.specs.declared.records.Record.{Record}
 use Rattle.zone_model.specs.declared.operations.Past.{Past}
 use Rattle.zone_model.specs.Names.{same, is_in, has_twice, is_default}
-use Rattle.zone_model.specs.Options.{is_some_and, is_none_or}
+use Rattle.name_rules.specs.Options.{is_some_and, is_none_or}
 use Rattle.zone_model.specs.Records.{record_at, names_in, is_there, share_of, IsAscending}
 use Rattle.zone_model.specs.Requests.{Putting, name_of_put, makes_new, puts_in, has_share_type, new_parent, root_given}
 use Rattle.zone_model.specs.PutChecks.{begins, root, parent, is_of_share, is_plain_in_working}
 use Rattle.zone_model.specs.Lawful.{is_plain, is_marked_with, has_good_parent, has_good_root}
 use Rattle.zone_model.specs.Effect.{Request, after_puts}
-use Rattle.zone_laws.proofs.NameLaws.{same-true, same-refl}
+use Rattle.name_rules.proofs.NameLemmas.{same-true, same-refl}
 use Rattle.zone_laws.proofs.RecordLaws.{none-some, found-name, found-below, later_step}
 use Rattle.zone_laws.proofs.WorkingLaws.{put_at, blank, blank-put}
 use Rattle.zone_laws.proofs.CoreLaws.{Core, core, leaving-core, new-root}

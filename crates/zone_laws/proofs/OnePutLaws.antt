@@ -12,7 +12,7 @@ use Rattle.zone_model.specs.declared.commits.Act.{Act}
 use Rattle.zone_model.specs.declared.commits.Act.TheVariants.{Writes, MakeZone, DropZone, SetSubscription, DropSubscription}
 use Rattle.zone_model.specs.declared.commits.Commit.{Commit}
 use Rattle.zone_model.specs.Names.{same, same_key, is_default}
-use Rattle.zone_model.specs.Options.{or_else}
+use Rattle.name_rules.specs.Options.{or_else}
 use Rattle.zone_model.specs.Records.{record_at}
 use Rattle.zone_model.specs.Zones.{Zone, zone_at, after_act, act_puts, puts_at}
 use Rattle.zone_model.specs.OnePuts.{commit_of_put, only_put, IsOnePut, put_by, last_put, count_puts}

@@ -19,7 +19,7 @@ use Rattle.zone_model.specs.Records.{names_in, IsAscending, with_record}
 use Rattle.zone_model.specs.Zones.{Zone, first_zone, commits_at, after_write, after_act, zone_at}
 use Rattle.zone_model.specs.Views.{nowhere, is_visible, owner_view, participant_view, view_of_zone}
 use Rattle.zone_laws.specs.Laws.{StaysInOrder}
-use Rattle.zone_laws.proofs.NameLaws.{before-trans}
+use Rattle.name_rules.proofs.NameLemmas.{before-trans}
 
 -- ---- some of the records
 

@@ -11,12 +11,14 @@ use Rattle.zone_model.specs.declared.pages.Item.TheVariants.{There, Gone}
 use Rattle.zone_model.specs.Names.{same, is_in}
 use Rattle.zone_model.specs.Records.{record_at}
 use Rattle.zone_model.specs.Views.{last_view}
-use Rattle.zone_model.specs.Entries.{entries, Entry, live_from}
-use Rattle.zone_model.specs.Pages.{item_at, last_number, choice_of, choice, page_from, page}
+use Rattle.zone_model.specs.Entries.{entries}
+use Rattle.name_rules.specs.LiveEntries.{Entry, live_from}
+use Rattle.zone_model.specs.Pages.{item_at, page_from, page}
+use Rattle.name_rules.specs.Choices.{last_number, choice_of, choice}
 use Rattle.zone_laws.specs.Copies.{Copy, IsInStep, with_item, fold_page}
-use Rattle.zone_laws.proofs.NameLaws.{same-true}
+use Rattle.name_rules.proofs.NameLemmas.{same-true}
 use Rattle.zone_laws.proofs.RecordLaws.{found-name}
-use Rattle.zone_laws.proofs.ChoiceLaws.{listed_within, listed_has, drop_more, last_bound, live_all, live_above-drop, chosen_within, chosen_onward}
+use Rattle.name_rules.proofs.ChoiceLemmas.{listed_within, listed_has, drop_more, last_bound, live_all, live_above-drop, chosen_within, chosen_onward}
 
 -- the entries of names, and those that are listed
 abbrev NameEntry : Type 0

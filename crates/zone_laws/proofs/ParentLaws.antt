@@ -8,9 +8,10 @@ use Rattle.std.proofs.lemmas.Option.{same_Some}
 use Rattle.record_model.specs.declared.records.Record.{Record}
 use Rattle.zone_model.specs.declared.operations.Past.{Past}
 use Rattle.zone_model.specs.Names.{same, is_in}
-use Rattle.zone_model.specs.Options.{is_some_and, is_none_or}
+use Rattle.name_rules.specs.Options.{is_some_and, is_none_or}
 use Rattle.zone_model.specs.Records.{record_at, names_in, is_share, IsAscending}
-use Rattle.zone_model.specs.Ancestry.{IsAncestor, here, up, is_ancestor, parent_at}
+use Rattle.zone_model.specs.Ancestry.{IsAncestor, is_ancestor, parent_at}
+use Rattle.name_rules.specs.Parents.{here, up}
 use Rattle.zone_model.specs.Requests.{name_of_put, puts_in, new_parent, names_deleted}
 use Rattle.zone_model.specs.Grounds.{names_taken, is_taken_by_deletion}
 use Rattle.record_model.specs.RecordForms.{is_share_type}
@@ -18,8 +19,8 @@ use Rattle.zone_model.specs.PutChecks.{parent, is_plain_in_working}
 use Rattle.zone_model.specs.Cascade.{takes_along, is_due}
 use Rattle.zone_model.specs.Lawful.{is_plain, has_good_parent}
 use Rattle.zone_model.specs.Effect.{Request, after_puts, removed}
-use Rattle.zone_laws.proofs.NameLaws.{same-true, any-in}
-use Rattle.zone_laws.proofs.AncestryLaws.{is_ancestor_from}
+use Rattle.name_rules.proofs.NameLemmas.{same-true, any-in}
+use Rattle.zone_laws.proofs.AncestryLaws.{is_ancestor_from, parent_of-record}
 use Rattle.zone_laws.proofs.CascadeLaws.{removed-rests}
 use Rattle.zone_laws.proofs.RecordLaws.{none-some, found-name}
 use Rattle.zone_laws.proofs.EffectLaws.{ascending-puts}
@@ -52,10 +53,10 @@ parent_step rows y r None is e = absurd (both_ways false refl (ap (λ (p : Optio
 parent_step rows y r (Some t) is e = (t, is, e)
 
 pub from_parent_at : (rows : List Record) (y r : List ℕ) → parent_at rows y ≡ Some r → (t : Record) × (record_at rows y ≡ Some t) × (t.parent ≡ Some r)
-from_parent_at rows y r e = parent_step rows y r (record_at rows y) refl e
+from_parent_at rows y r e = parent_step rows y r (record_at rows y) refl (sym (parent_of-record rows y) ∙ e)
 
 pub to_parent_at : (rows : List Record) (y r : List ℕ) (t : Record) → record_at rows y ≡ Some t → t.parent ≡ Some r → parent_at rows y ≡ Some r
-to_parent_at rows y r t is e = ap (option_and_then (λ (u : Record). u.parent)) is ∙ e
+to_parent_at rows y r t is e = parent_of-record rows y ∙ ap (option_and_then (λ (u : Record). u.parent)) is ∙ e
 
 named_step : (s : Bool) (r : Record) (rows : List Record) (x : List ℕ) → same x r.name ≡ s → (is_in (names_in rows) x ≡ true → (t : Record) × (record_at rows x ≡ Some t)) → (s || is_in (names_in rows) x) ≡ true
     → (t : Record) × (cond s (Some r) (record_at rows x) ≡ Some t)

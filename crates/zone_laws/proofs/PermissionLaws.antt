@@ -13,17 +13,18 @@ use Rattle.share_records.specs.declared.share.Share.{Share as ShareOf}
 use Rattle.record_model.specs.declared.records.Record.{Record}
 use Rattle.zone_model.specs.declared.commits.Commit.{Commit}
 use Rattle.zone_model.specs.Names.{same, is_default}
-use Rattle.zone_model.specs.Options.{is_some_and}
+use Rattle.name_rules.specs.Options.{is_some_and}
 use Rattle.zone_model.specs.Records.{record_at, names_in, share_of, IsAscending}
-use Rattle.zone_model.specs.Same.{rank}
+use Rattle.share_records.specs.Permissions.{rank, permission_in, gives, has_accepted}
 use Rattle.zone_model.specs.Zones.{zone_at}
-use Rattle.zone_model.specs.Ancestry.{IsAncestor, here, up, ancestors, is_ancestor}
-use Rattle.zone_model.specs.Coverage.{permission_in, gives, has_accepted, reaches, covers, may_write}
+use Rattle.zone_model.specs.Ancestry.{IsAncestor, ancestors, is_ancestor}
+use Rattle.name_rules.specs.Parents.{here, up}
+use Rattle.zone_model.specs.Coverage.{covers, may_write}
 use Rattle.zone_model.specs.Views.{nowhere, is_visible, owner_view, participant_view, view_of}
 use Rattle.zone_model.specs.Grounds.{grounds_of, is_seen}
 use Rattle.zone_laws.specs.Laws.{IsParticipantsZone, PermissionsAreSeen, IsCoveredBy, NothingElseIsSeen}
-use Rattle.zone_laws.proofs.NameLaws.{same-true, same-refl}
-use Rattle.zone_laws.proofs.AncestryLaws.{is_ancestor_from, is_ancestor_gives}
+use Rattle.name_rules.proofs.NameLemmas.{same-true, same-refl}
+use Rattle.zone_laws.proofs.AncestryLaws.{is_ancestor_from, is_ancestor_gives, record_reaches, gives_at-records}
 use Rattle.zone_laws.proofs.OrderLaws.{ascending-zone, ascending-some}
 use Rattle.zone_laws.proofs.RecordLaws.{none-some, found-name, found-below, later_step}
 use Rattle.zone_laws.proofs.FormedLaws.{found-some, found-among}
@@ -44,7 +45,7 @@ any-found : (p : Record → Bool) (rows : List Record) (x : List ℕ) (r : Recor
 any-found p [] x r e pr = absurd (none-some None r refl e)
 any-found p (q ∷ rows) x r e pr = any_step (same x q.name) p q r (record_at rows x) (list_any p rows) pr (λ f. any-found p rows x r f pr) e
 
-found-any : (p : Record → Bool) (rows : List Record) → IsAscending rows → list_any p rows ≡ true → (r : Record) × (record_at rows r.name ≡ Some r) × (p r ≡ true)
+pub found-any : (p : Record → Bool) (rows : List Record) → IsAscending rows → list_any p rows ≡ true → (r : Record) × (record_at rows r.name ≡ Some r) × (p r ≡ true)
 found-any p [] ascend e = absurd (both_ways false refl e)
 found-any p (r ∷ rows) ascend e =
     let parts = and_parts (list_all (is_before r.name) (names_in rows)) _ ascend in
@@ -82,7 +83,7 @@ module _ (rows : List Record) (u : List ℕ) (ascend : IsAscending rows) where
   module _ (x : List ℕ) (r : Record) (s : ShareOf) (at : record_at rows x ≡ Some r) (is : share_of r ≡ Some s) (accepts : has_accepted u s ≡ true) where
     chain_seen : (y : List ℕ) (t : Record) → IsAncestor rows s.root y → record_at rows y ≡ Some t → record_at seen y ≡ Some t
     chain_seen y t above there =
-        let covered : covers rows u y ≡ true = any-found (reaches rows ReadOnly u y) rows x r at (reach (share_of r) s y is accepts (is_ancestor_from rows s.root y above)) in
+        let covered : covers rows u y ≡ true = gives_at-records rows ReadOnly u y ∙ any-found (record_reaches rows ReadOnly u y) rows x r at (reach (share_of r) s y is accepts (is_ancestor_from rows s.root y above)) in
         found-among (is_visible rows u) rows y t there
         (or_left (covers rows u t.name) (is_some_and (has_accepted u) (share_of t)) (subst (λ z. covers rows u z ≡ true) (same-true y t.name (found-name rows y t there)) covered))
 
@@ -116,13 +117,13 @@ module _ (rows : List Record) (u : List ℕ) (ascend : IsAscending rows) where
 
   written_out : (x : List ℕ) → may_write seen u x ≡ true → may_write rows u x ≡ true
   written_out x e =
-      let r = found-any (reaches seen ReadWrite u x) seen (ascending-some (is_visible rows u) rows ascend) e in
-      any-found (reaches rows ReadWrite u x) rows r.0.name r.0 (found-some (is_visible rows u) rows r.0.name r.0 ascend r.1).0 (reach_out (share_of r.0) x r.2)
+      let r = found-any (record_reaches seen ReadWrite u x) seen (ascending-some (is_visible rows u) rows ascend) (sym (gives_at-records seen ReadWrite u x) ∙ e) in
+      gives_at-records rows ReadWrite u x ∙ any-found (record_reaches rows ReadWrite u x) rows r.0.name r.0 (found-some (is_visible rows u) rows r.0.name r.0 ascend r.1).0 (reach_out (share_of r.0) x r.2)
 
   written_in : (x : List ℕ) → may_write rows u x ≡ true → may_write seen u x ≡ true
   written_in x e =
-      let r = found-any (reaches rows ReadWrite u x) rows ascend e in
-      any-found (reaches seen ReadWrite u x) seen r.0.name r.0 (shares_seen r.0.name r.0 r.1 (accepted u (share_of r.0) (λ (s : ShareOf). is_ancestor rows s.root x) r.2))
+      let r = found-any (record_reaches rows ReadWrite u x) rows ascend (sym (gives_at-records rows ReadWrite u x) ∙ e) in
+      gives_at-records seen ReadWrite u x ∙ any-found (record_reaches seen ReadWrite u x) seen r.0.name r.0 (shares_seen r.0.name r.0 r.1 (accepted u (share_of r.0) (λ (s : ShareOf). is_ancestor rows s.root x) r.2))
       (reach_in (share_of r.0) x r.0 refl r.1 r.2)
 
 -- ---- the law
@@ -174,7 +175,7 @@ seen_rightly rows u x r ascend e =
       at,
       ⊎_elim
           (λ (covered : covers rows u r.name ≡ true).
-          let t = found-any (reaches rows ReadOnly u r.name) rows ascend covered in
+          let t = found-any (record_reaches rows ReadOnly u r.name) rows ascend (sym (gives_at-records rows ReadOnly u r.name) ∙ covered) in
           inr (t.0, subst (λ y. IsCoveredBy rows u y t.0) (sym (same-true x r.name (found-name rows x r at))) (covered_by rows u r.name t.0 (share_of t.0) t.1 refl t.2)))
           (λ (accepts : is_some_and (has_accepted u) (share_of r) ≡ true). inl accepts)
           (or_cases (covers rows u r.name) (is_some_and (has_accepted u) (share_of r)) found.1),

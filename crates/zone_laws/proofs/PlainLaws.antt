@@ -30,7 +30,7 @@ use Rattle.zone_model.specs.declared.commits.Write.TheVariants.{Put}
 use Rattle.zone_model.specs.declared.commits.Commit.{Commit}
 use Rattle.zone_model.specs.Limits.{most_record_size}
 use Rattle.zone_model.specs.Names.{same, is_in, is_default, same_option}
-use Rattle.zone_model.specs.Options.{is_some_and, is_none_or, or_else}
+use Rattle.name_rules.specs.Options.{is_some_and, is_none_or, or_else}
 use Rattle.zone_model.specs.Records.{record_at, is_there, is_share, IsAscending, with_record}
 use Rattle.zone_model.specs.References.{references_in, validates}
 use Rattle.zone_model.specs.Zones.{zone_at, puts_at}
@@ -38,7 +38,8 @@ use Rattle.zone_model.specs.Ancestry.{is_ancestor}
 use Rattle.zone_model.specs.Views.{view_of, owner_view, nowhere}
 use Rattle.zone_model.specs.Requests.{Caller, Putting, name_of_draft, new_parent, has_share_type, root_given, root_tag_given, parent_given, is_create, first_guid}
 use Rattle.zone_model.specs.Past.{name_history, is_taken, past_of}
-use Rattle.zone_model.specs.Sharing.{is_refused_list, share_after, first_share}
+use Rattle.zone_model.specs.Sharing.{share_after}
+use Rattle.share_records.specs.ShareLists.{is_refused_list, first_share}
 use Rattle.zone_model.specs.Putting.{new_record, written_over, no_stamp}
 use Rattle.zone_model.specs.Working.{is_share_of, with_puts, with_marks, mark_of, loses_mark}
 use Rattle.zone_model.specs.Grounds.{Grounds, grounds_of, is_stale, in_working, first_fault, Check}
@@ -49,7 +50,7 @@ use Rattle.zone_model.specs.Modifying.{request_at, judgement_at, done, outcome_o
 use Rattle.zone_model.specs.PlainCreates.{IsOwner, gives_no_parent, gives_no_share, only_names, has_plain_references, is_plain_draft, drafted_record, created_record, is_too_large, refusal_of_create}
 use Rattle.zone_model.specs.OnePuts.{commit_of_put}
 use Rattle.zone_laws.specs.Laws.{OneIsEitherWay, OwnersSeeAll, PlainCreatesAreDone, PlainCreatesAreInForm}
-use Rattle.zone_laws.proofs.NameLaws.{same-refl}
+use Rattle.name_rules.proofs.NameLemmas.{same-refl}
 use Rattle.zone_laws.proofs.OrderLaws.{ascending-zone}
 use Rattle.zone_laws.proofs.RecordLaws.{found-with}
 use Rattle.zone_laws.proofs.JudgeLaws.{there-found}
@@ -380,6 +381,12 @@ typed_by true b c e = absurd (both_ways true (ap (λ (o : Option OpFault). optio
 typed_by false true c e = absurd (both_ways true (ap (λ (o : Option OpFault). option_map_or (λ _. true) o false) e) refl)
 typed_by false false c e = refl
 
+small_by : (a b c : Bool) → (if a then Some Exists else (if b || c then Some BadRequest else None)) ≡ None → c ≡ false
+small_by true b c e = absurd (both_ways true (ap (λ (o : Option OpFault). option_map_or (λ _. true) o false) e) refl)
+small_by false true c e = absurd (both_ways true (ap (λ (o : Option OpFault). option_map_or (λ _. true) o false) e) refl)
+small_by false false true e = absurd (both_ways true (ap (λ (o : Option OpFault). option_map_or (λ _. true) o false) e) refl)
+small_by false false false e = refl
+
 named_by : (o : Option (List ℕ)) → is_some o ≡ true → is_none o ≡ false
 named_by None e = absurd (both_ways false refl e)
 named_by (Some x) e = refl
@@ -400,7 +407,7 @@ creates_in_form = record {
         tag = (omega arith, counts);
         parent = tt;
         share = tt;
-        fields = fields-form d.fields [] meant.fields.0 (tt, refl);
+        fields = fields-form d.fields [] meant.fields.0 (tt, refl) (small_by (is_there rows (name_of_draft d)) (is_none d.rtype) (is_too_large d) e);
         created = record { moment = in_range; user = is };
         modified = record { moment = in_range; user = is };
         body = plain_type d.rtype typed p.rtype;

@@ -10,10 +10,10 @@ use Rattle.record_model.specs.declared.records.Record.{Record}
 use Rattle.zone_model.specs.declared.commits.Write.{Write}
 use Rattle.zone_model.specs.declared.commits.Write.TheVariants.{Put, Remove, PutRemove}
 use Rattle.zone_model.specs.Names.{same}
-use Rattle.zone_model.specs.Options.{or_else}
+use Rattle.name_rules.specs.Options.{or_else}
 use Rattle.zone_model.specs.Records.{record_at, names_in, IsAscending, with_record, without}
 use Rattle.zone_model.specs.Zones.{after_write, written_name}
-use Rattle.zone_laws.proofs.NameLaws.{same-true, same-refl, same-sym_false, three_ways, before-asym, before-irrefl}
+use Rattle.name_rules.proofs.NameLemmas.{same-true, same-refl, same-sym_false, three_ways, before-asym, before-irrefl}
 
 pub same-comm : (x y : List ℕ) → same x y ≡ same y x
 same-comm x y = by (same x y) refl

@@ -11,7 +11,8 @@ use Rattle.zone_model.specs.Records.{record_at}
 use Rattle.zone_model.specs.Same.{same_view}
 use Rattle.zone_model.specs.Views.{view_of, views_at_fronts, changes_after, without_repeats, views_of, fronts, last_view}
 use Rattle.zone_model.specs.Entries.{entries, changed}
-use Rattle.zone_model.specs.Pages.{page, page_from, choice}
+use Rattle.zone_model.specs.Pages.{page, page_from}
+use Rattle.name_rules.specs.Choices.{choice}
 use Rattle.zone_laws.specs.Copies.{Copy, IsInStep, fold_page}
 use Rattle.zone_laws.specs.Laws.{RepeatsAreDropped, ViewsGrow, CopiesStayInStep, NothingIsInStep}
 use Rattle.zone_laws.proofs.SameLaws.{view-true}
@@ -53,7 +54,7 @@ last-same (v ∷ vs) = last_after v vs
 pub page-same : (vs : List View) (n k : ℕ) → page (without_repeats vs) n k ≡ page vs n k
 page-same vs n k i = page_from (last-same vs i).rows (choice same (entries-same vs i) n k)
 
-abbrev any_here : List View → Bool
+abbrev pub any_here : List View → Bool
 any_here vs = list_any (λ (v : View). v.here) vs
 
 twice : (a b : Bool) → (a || b) ≡ (a || (a || b))

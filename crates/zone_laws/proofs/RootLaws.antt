@@ -8,7 +8,7 @@ use Rattle.std.proofs.lemmas.Option.{same_Some}
 use Rattle.record_model.specs.declared.records.Record.{Record}
 use Rattle.zone_model.specs.declared.operations.Past.{Past}
 use Rattle.zone_model.specs.Names.{same, is_in, is_private}
-use Rattle.zone_model.specs.Options.{is_some_and, or_else}
+use Rattle.name_rules.specs.Options.{is_some_and, or_else}
 use Rattle.zone_model.specs.Records.{record_at, is_there, is_share, IsAscending}
 use Rattle.zone_model.specs.References.{goes_with}
 use Rattle.zone_model.specs.Ancestry.{is_ancestor}
@@ -17,7 +17,7 @@ use Rattle.zone_model.specs.Putting.{records_written}
 use Rattle.zone_model.specs.Working.{is_share_of, mark_of, with_puts, new_share_of, loses_mark}
 use Rattle.zone_model.specs.Grounds.{is_taken_by_deletion}
 use Rattle.zone_model.specs.Effect.{Request, working, body_without, is_put, is_new_share_of, is_left, after_leaving, after_puts, removed, is_unmarked}
-use Rattle.zone_laws.proofs.NameLaws.{same-true, same-refl, kept}
+use Rattle.name_rules.proofs.NameLemmas.{same-true, same-refl, kept}
 use Rattle.zone_laws.proofs.RecordLaws.{none-some, found-name, found-map}
 use Rattle.zone_laws.proofs.EffectLaws.{ascending-fold}
 use Rattle.zone_laws.proofs.WorkingLaws.{put_at, put_over, found-puts}

@@ -19,8 +19,9 @@ use Rattle.record_model.specs.declared.records.Body.TheVariants.{Plain, Share}
 use Rattle.record_model.specs.declared.records.Record.{Record}
 use Rattle.record_model.specs.declared.view.View.{View}
 use Rattle.zone_model.specs.Names.{same, same_option}
-use Rattle.zone_model.specs.Same.{same_permission, is_public, same_bool, same_value, same_field, same_stamp, same_participant, same_share, same_body, same_record, same_view, same_found}
-use Rattle.zone_laws.proofs.NameLaws.{same-true, same-refl}
+use Rattle.zone_model.specs.Same.{same_bool, same_value, same_field, same_stamp, same_participant, same_share, same_body, same_record, same_view, same_found}
+use Rattle.share_records.specs.Permissions.{same_permission, is_public}
+use Rattle.name_rules.proofs.NameLemmas.{same-true, same-refl}
 
 -- ---- alike is the same
 

@@ -18,14 +18,17 @@ use Rattle.record_model.specs.RecordSizes.{size_of_field, size_of_record}
 use Rattle.zone_model.specs.declared.operations.Past.{Past}
 use Rattle.zone_model.specs.Limits.{most_participants, most_record_size}
 use Rattle.zone_model.specs.Names.{same}
-use Rattle.zone_model.specs.Options.{is_some_and, is_none_or}
-use Rattle.zone_model.specs.Records.{record_at, share_in}
+use Rattle.name_rules.specs.Options.{is_some_and, is_none_or}
+use Rattle.record_model.specs.RecordForms.{share_in}
+use Rattle.zone_model.specs.Records.{record_at}
 use Rattle.zone_model.specs.Requests.{Putting, name_of_put, makes_new, changes_old, puts_in, has_share_type, root_given}
-use Rattle.zone_model.specs.Sharing.{participant_at, kept_as, with_participant, rewritten, is_refused_list, share_after, first_share}
+use Rattle.zone_model.specs.Sharing.{share_after}
+use Rattle.share_records.specs.ShareLists.{participant_at, kept_as, with_participant, rewritten, is_refused_list, first_share}
 use Rattle.zone_model.specs.Putting.{new_record, changed_record, written_over, body_after}
 use Rattle.zone_model.specs.Lawful.{has_good_parent, has_good_root, has_good_mark, is_within_limits}
 use Rattle.zone_model.specs.Effect.{Request, working, body_without, is_put, is_left, after_leaving, after_puts}
-use Rattle.zone_laws.proofs.NameLaws.{same-true, before-asym}
+use Rattle.share_records.proofs.ListLemmas.{refused-is}
+use Rattle.name_rules.proofs.NameLemmas.{same-true, before-asym}
 use Rattle.zone_laws.proofs.RecordLaws.{none-some}
 use Rattle.zone_laws.proofs.WorkingLaws.{put_at, put_over, found-puts, blank}
 use Rattle.zone_laws.proofs.CoreLaws.{put-name}
@@ -94,7 +97,7 @@ few_wanted : (owner : List ℕ) (old : List Participant) (o : Option (List Wante
     → nat_le (length (option_map_or (rewritten old) o old)) most_participants ≡ true
 few_wanted owner old None fine few = few
 few_wanted owner old (Some wanted) fine few =
-    let short : length wanted ≤ most_participants = ltb-false most_participants (length wanted) (or_parts (nat_lt most_participants (length wanted)) _ fine).0 in
+    let short : length wanted ≤ most_participants = ltb-false most_participants (length wanted) (or_parts (nat_lt most_participants (length wanted)) _ (sym (refused-is owner wanted) ∙ fine)).0 in
     le_true (length (rewritten old wanted)) most_participants (omega (arith, length-rewritten old wanted, short))
 
 few_after : (owner : List ℕ) (b : Body) (d : Draft) → is_some_and (is_refused_list owner) d.participants ≡ false → IsFew (share_in b) → IsFew (share_in (body_after b d))

@@ -15,7 +15,7 @@ use Rattle.zone_model.specs.Views.{nowhere, participant_view, view_of, views_at_
 use Rattle.zone_model.specs.Zones.{first_zone}
 use Rattle.zone_model.specs.Entries.{entries, changed}
 use Rattle.zone_laws.specs.Copies.{Copy, IsInStep}
-use Rattle.zone_laws.proofs.NameLaws.{kept, both_left, both_right}
+use Rattle.name_rules.proofs.NameLemmas.{kept, both_left, both_right}
 use Rattle.zone_laws.proofs.SameLaws.{found-true}
 use Rattle.zone_laws.proofs.EntryLaws.{entries-snoc, last_view-snoc}
 use Rattle.zone_laws.proofs.LogLaws.{views-snoc}

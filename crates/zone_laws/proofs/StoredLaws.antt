@@ -1,6 +1,6 @@
 -- What a request commits has the form of a commit.
 use Rattle.std.proofs.Common.{◌≡◌, ℕ, suc, ◌<◌, ◌^◌, List, [], ◌∷◌, Bool, true, false, cond, ◌&&◌, refl, sym, ap, ◌∙◌, subst, arith, Some, None, Option, length, ◌+◌, ◌++◌, not, append_assoc}
-use Rattle.std.specs.Prelude.{filter_map, fold, is_some, is_none, unwrap_or, if◌then◌else◌, IfSome, count_by, drop}
+use Rattle.std.specs.Prelude.{filter_map, fold, is_some, is_none, unwrap_or, if◌then◌else◌, IfSome, count_by, drop, nat_lt}
 use Rattle.std.specs.Option.{option_map_or}
 use Rattle.std.specs.List.{list_all, cons_option, AllByRecursion, list_any}
 use Rattle.std.proofs.lemmas.Bool.{both_ways, and_parts, cond-true, or_left, or_right}
@@ -16,6 +16,7 @@ use Rattle.record_model.specs.declared.draft.ParentWish.TheVariants.{Absent, Nul
 use Rattle.record_model.specs.declared.records.Body.TheVariants.{Plain, Share}
 use Rattle.record_model.specs.declared.records.Record.{Record}
 use Rattle.record_model.specs.DraftForms.{IsParentWish, IsForRoot, IsWanted}
+use Rattle.record_model.specs.RecordSizes.{size_of_record}
 use Rattle.record_model.specs.RecordForms.{IsStamp, AreFields, is_share_type, IsBodyOf, IsStored}
 use Rattle.zone_model.specs.declared.operations.Op.{Op}
 use Rattle.zone_model.specs.declared.operations.Past.{Past}
@@ -24,13 +25,15 @@ use Rattle.zone_model.specs.declared.commits.Write.TheVariants.{Put, Remove, Put
 use Rattle.zone_model.specs.declared.commits.Act.{Act}
 use Rattle.zone_model.specs.declared.commits.Act.TheVariants.{Writes, MakeZone, DropZone, SetSubscription, DropSubscription}
 use Rattle.zone_model.specs.declared.commits.Commit.{Commit}
+use Rattle.zone_model.specs.Limits.{most_record_size}
 use Rattle.zone_model.specs.Names.{same, same_key, is_in, has_twice, is_default}
-use Rattle.zone_model.specs.Options.{is_some_and}
+use Rattle.name_rules.specs.Options.{is_some_and}
 use Rattle.zone_model.specs.Records.{record_at, names_in, is_there, IsAscending}
 use Rattle.zone_model.specs.Zones.{Zone, first_zone, commits_at, after_write, after_act, zone_at, puts_at, written_name, puts_name, act_puts}
 use Rattle.zone_model.specs.Views.{is_empty}
 use Rattle.zone_model.specs.Requests.{Caller, Putting, roots_in, name_of_put, makes_new, changes_old, drops_fields, puts_in, parent_given, has_share_type, root_given, is_deletion, first_guid, guids_left}
-use Rattle.zone_model.specs.Sharing.{share_after, first_share}
+use Rattle.zone_model.specs.Sharing.{share_after}
+use Rattle.share_records.specs.ShareLists.{first_share}
 use Rattle.zone_model.specs.Putting.{new_record, changed_record, written_over}
 use Rattle.zone_model.specs.Past.{name_history}
 use Rattle.zone_model.specs.PutChecks.{is_new}
@@ -40,7 +43,8 @@ use Rattle.zone_model.specs.Modifying.{request_at, judgement_at, effect_at, modi
 use Rattle.zone_model.specs.Form.{IsKey, IsWrite, IsActInForm, IsInForm}
 use Rattle.zone_model.specs.Lawful.{are_lawful}
 use Rattle.zone_laws.specs.Laws.{IsGivenPut, EffectsAreInForm, HaveRoom, HasFewWrites}
-use Rattle.zone_laws.proofs.NameLaws.{same-true, same-refl, key-refl}
+use Rattle.zone_laws.proofs.NameLaws.{key-refl}
+use Rattle.name_rules.proofs.NameLemmas.{same-true, same-refl}
 use Rattle.zone_laws.proofs.RecordLaws.{none-some, found-name, found-below, later_step, found-after, left_by}
 use Rattle.zone_laws.proofs.EffectLaws.{effects_in_order, write_by}
 use Rattle.zone_laws.proofs.WorkingLaws.{put_at, put_over, found-puts, blank}
@@ -50,7 +54,7 @@ use Rattle.zone_laws.proofs.KeptLaws.{ground, IsFine, checked, is-new, not_hidde
 use Rattle.zone_laws.proofs.ParentLaws.{after_in_order}
 use Rattle.zone_laws.proofs.RootLaws.{unmarked}
 use Rattle.zone_laws.proofs.LawfulLaws.{mark_there, is_fine, one_root, lawful-append, lawful-effect, there-after}
-use Rattle.zone_laws.proofs.FormLaws.{every-filter, fields-form, share-form, first-form, body-form, body-left, every-append}
+use Rattle.zone_laws.proofs.FormLaws.{every-filter, AreInOrder, IsTaken, fields-form, share-form, first-form, body-form, body-left, every-append}
 use Rattle.std.proofs.lemmas.List.Folds.{list_any-append}
 use Rattle.zone_laws.proofs.LogLaws.{puts-append}
 
@@ -103,17 +107,19 @@ root_form : (o : Option ForRoot) → is_none o ≡ false → IfSome o IsForRoot 
 root_form None some is = absurd (both_ways true some refl)
 root_form (Some f) some is = (f.name, refl, is.0, refl)
 
-shared_form : (t : List ℕ) (b : Bool) (o : Option (List ℕ)) (d : Draft) (guid : List ℕ) → is_share_type t ≡ b → (b ≡ true → (x : List ℕ) × (o ≡ Some x) × IsName x × IsGuid guid) → IfSome d.participants (AllByRecursion IsWanted)
+shared_form : (owner t : List ℕ) (b : Bool) (o : Option (List ℕ)) (d : Draft) (guid : List ℕ) → IsTaken owner d → is_share_type t ≡ b → (b ≡ true → (x : List ℕ) × (o ≡ Some x) × IsName x × IsGuid guid)
+    → IfSome d.participants (AllByRecursion IsWanted)
     → IsBodyOf t (if b then option_map_or (λ root. Share (share_after (first_share root guid) d)) o Plain else Plain)
-shared_form t true o d guid is given all =
+shared_form owner t true o d guid taken is given all =
     let x = given refl in
-    subst (λ p. IsBodyOf t (option_map_or (λ root. Share (share_after (first_share root guid) d)) p Plain)) (sym x.1) (is, share-form (first_share x.0 guid) d (first-form x.0 guid x.2 x.3) all)
-shared_form t false o d guid is given all = is
+    subst (λ p. IsBodyOf t (option_map_or (λ root. Share (share_after (first_share root guid) d)) p Plain)) (sym x.1) (is, share-form owner (first_share x.0 guid) d taken (first-form x.0 guid x.2 x.3) all)
+shared_form owner t false o d guid taken is given all = is
 
-new_body_form : (r o : Option (List ℕ)) (d : Draft) (guid : List ℕ) → is_none r ≡ false → (is_some_and is_share_type r ≡ true → (x : List ℕ) × (o ≡ Some x) × IsName x × IsGuid guid) → IfSome d.participants (AllByRecursion IsWanted)
+new_body_form : (owner : List ℕ) (r o : Option (List ℕ)) (d : Draft) (guid : List ℕ) → IsTaken owner d → is_none r ≡ false → (is_some_and is_share_type r ≡ true → (x : List ℕ) × (o ≡ Some x) × IsName x × IsGuid guid)
+    → IfSome d.participants (AllByRecursion IsWanted)
     → IsBodyOf (unwrap_or r []) (if is_some_and is_share_type r then option_map_or (λ root. Share (share_after (first_share root guid) d)) o Plain else Plain)
-new_body_form None o d guid some given all = absurd (both_ways true some refl)
-new_body_form (Some t) o d guid some given all = shared_form t (is_share_type t) o d guid refl given all
+new_body_form owner None o d guid taken some given all = absurd (both_ways true some refl)
+new_body_form owner (Some t) o d guid taken some given all = shared_form owner t (is_share_type t) o d guid taken refl given all
 
 put_found : (s : Bool) (q p : Putting) (o : Option Putting) → IsGivenPut q → (o ≡ Some p → IsGivenPut p) → cond s (Some q) o ≡ Some p → IsGivenPut p
 put_found true q p o one more e = subst IsGivenPut (same_Some q p e) one
@@ -170,13 +176,34 @@ module _ (q : Request) (pasts : List Past) (fine : IsFine q pasts) (stored : Are
   zone_base : (x : List ℕ) (z : Record) → record_at q.rows x ≡ Some z → IsBase x z
   zone_base x z there = let s = stored x z there in record { name = s.name; rtype = s.rtype; parent = s.parent; fields = s.fields; created = λ y e. s.created; body = s.body }
 
-  kept_fields : (b : Bool) (x : List ℕ) (v : Record) → record_at q.rows x ≡ Some v → AreFields (if b then [] else v.fields)
+  kept_fields : (b : Bool) (x : List ℕ) (v : Record) → record_at q.rows x ≡ Some v → AreInOrder (if b then [] else v.fields)
   kept_fields true x v there = (tt, refl)
-  kept_fields false x v there = (stored x v there).fields
+  kept_fields false x v there = let f = (stored x v there).fields in (f.0, f.1)
 
-  old_base : (b : Bool) (x : List ℕ) (p : Putting) (v r : Record) → put_at (puts_in q.ops q.guids) x ≡ Some p → record_at q.seen x ≡ Some v
+  -- a list that a put gives
+  taken_at : (x : List ℕ) (p : Putting) → put_at (puts_in q.ops q.guids) x ≡ Some p → IsTaken q.caller.key.owner p.draft
+  taken_at x p at = (checked q pasts fine x p at).listed
+
+  -- what a put writes over what the caller sees
+  small_by : (o : Option Record) (x : List ℕ) (p : Putting) → put_at (puts_in q.ops q.guids) x ≡ Some p → record_at q.seen x ≡ o
+      → is_some_and (λ (r : Record). nat_lt most_record_size (size_of_record r)) (written_over (blank p) o) ≡ false
+  small_by o x p at seen =
+      let name : x ≡ name_of_put p = same-true x (name_of_put p) (put-name (puts_in q.ops q.guids) x p at) in
+      ap (λ s. is_some_and (λ (r : Record). nat_lt most_record_size (size_of_record r)) (written_over (blank p) s)) (sym seen ∙ ap (record_at q.seen) name)
+      ∙ (checked q pasts fine x p at).small
+
+  small_old : (x : List ℕ) (p : Putting) (v : Record) → put_at (puts_in q.ops q.guids) x ≡ Some p → record_at q.seen x ≡ Some v → changes_old p.kind ≡ true
+      → nat_lt most_record_size (size_of_record (changed_record p v)) ≡ false
+  small_old x p v at seen changes =
+      ap (λ b. is_some_and (λ (r : Record). nat_lt most_record_size (size_of_record r)) (if b then Some (changed_record (blank p) v) else None)) (sym changes) ∙ small_by (Some v) x p at seen
+
+  small_new : (x : List ℕ) (p : Putting) → put_at (puts_in q.ops q.guids) x ≡ Some p → record_at q.seen x ≡ None → makes_new p.kind ≡ true → nat_lt most_record_size (size_of_record (new_record p)) ≡ false
+  small_new x p at unseen makes =
+      ap (λ b. is_some_and (λ (r : Record). nat_lt most_record_size (size_of_record r)) (if b then Some (new_record (blank p)) else None)) (sym makes) ∙ small_by None x p at unseen
+
+  old_base : (b : Bool) (x : List ℕ) (p : Putting) (v r : Record) → put_at (puts_in q.ops q.guids) x ≡ Some p → record_at q.seen x ≡ Some v → changes_old p.kind ≡ b
       → option_map_or Some (if b then Some (changed_record p v) else None) (Some v) ≡ Some r → IsBase x r
-  old_base true x p v r at seen e =
+  old_base true x p v r at seen changes e =
       let there = fine.part.part x v seen in
       let s = stored x v there in
       let g = given_at (puts_in q.ops q.guids) x p given at in
@@ -184,11 +211,12 @@ module _ (q : Request) (pasts : List Past) (fine : IsFine q pasts) (stored : Are
         name = s.name;
         rtype = s.rtype;
         parent = s.parent;
-        fields = fields-form p.draft.fields (if drops_fields p.kind then [] else v.fields) g.meant.fields.0 (kept_fields (drops_fields p.kind) x v there);
+        fields = fields-form p.draft.fields (if drops_fields p.kind then [] else v.fields) g.meant.fields.0 (kept_fields (drops_fields p.kind) x v there)
+            (small_old x p v at seen changes);
         created = λ z f. s.created;
-        body = body-form v.rtype v.body p.draft s.body g.meant.participants;
+        body = body-form q.caller.key.owner v.rtype v.body p.draft (taken_at x p at) s.body g.meant.participants;
       })
-  old_base false x p v r at seen e = subst (IsBase x) (same_Some v r e) (zone_base x v (fine.part.part x v seen))
+  old_base false x p v r at seen changes e = subst (IsBase x) (same_Some v r e) (zone_base x v (fine.part.part x v seen))
 
   typed_from : (a b : Bool) → a ≡ true → (a && b) ≡ false → b ≡ false
   typed_from true b is e = e
@@ -210,9 +238,9 @@ module _ (q : Request) (pasts : List Past) (fine : IsFine q pasts) (stored : Are
         name = g.name;
         rtype = some_form p.draft.rtype typed g.meant.rtype;
         parent = parent_form p.draft.parent g.meant.parent;
-        fields = fields-form p.draft.fields [] g.meant.fields.0 (tt, refl);
+        fields = fields-form p.draft.fields [] g.meant.fields.0 (tt, refl) (small_new x p at unseen makes);
         created = λ z there. absurd (not_hidden q pasts fine x p z at makes unseen there);
-        body = new_body_form p.draft.rtype (root_given p.draft) p.draft p.guid typed rooted g.meant.participants;
+        body = new_body_form q.caller.key.owner p.draft.rtype (root_given p.draft) p.draft p.guid (taken_at x p at) typed rooted g.meant.participants;
       })
     where
       grouped : (a b c d : Bool) → ((a && (b && c)) && d) ≡ false → (a && (b && (c && d))) ≡ false
@@ -230,7 +258,7 @@ module _ (q : Request) (pasts : List Past) (fine : IsFine q pasts) (stored : Are
       new_base (makes_new p.kind) x p r at seen refl (ap (λ o. option_map_or Some (written_over p o) None) (sym (ap (record_at q.seen) (sym name) ∙ seen)) ∙ e)
   over_base (Some p) (Some v) x r at seen e =
       let name : x ≡ name_of_put p = same-true x (name_of_put p) (put-name (puts_in q.ops q.guids) x p at) in
-      old_base (changes_old p.kind) x p v r at seen (ap (λ o. option_map_or Some (written_over p o) (Some v)) (sym (ap (record_at q.seen) (sym name) ∙ seen)) ∙ e)
+      old_base (changes_old p.kind) x p v r at seen refl (ap (λ o. option_map_or Some (written_over p o) (Some v)) (sym (ap (record_at q.seen) (sym name) ∙ seen)) ∙ e)
 
   mark_base : (x : List ℕ) (r : Record) (share : Option (List ℕ)) → IsBase x r → IsBase x (record r { share = share })
   mark_base x r share b = record { name = b.name; rtype = b.rtype; parent = b.parent; fields = b.fields; created = b.created; body = b.body }

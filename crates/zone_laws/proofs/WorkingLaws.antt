@@ -12,7 +12,7 @@ use Rattle.zone_model.specs.Records.{record_at, with_record}
 use Rattle.zone_model.specs.Requests.{Putting, is_deletion, makes_new, changes_old, name_of_op, name_of_put, puts_in, guids_left, draws_guid, first_guid, first_puts}
 use Rattle.zone_model.specs.Putting.{new_record, changed_record, written_over}
 use Rattle.zone_model.specs.Working.{mark_of, with_puts, working_view}
-use Rattle.zone_laws.proofs.NameLaws.{same-true, same-refl}
+use Rattle.name_rules.proofs.NameLemmas.{same-true, same-refl}
 use Rattle.zone_laws.proofs.RecordLaws.{found-name, found-with, found-map, found-fold, EachOnce, settled, none-some}
 
 -- ---- puts by name

@@ -22,8 +22,9 @@ use Rattle.zone_model.specs.declared.outcomes.OpFault.TheVariants.{Conflict}
 use Rattle.zone_model.specs.declared.outcomes.Outcome.TheVariants.{Put, Refused}
 use Rattle.zone_model.specs.Names.{same, same_key, is_default, is_shared, is_in, has_twice}
 use Rattle.zone_model.specs.Records.{record_at, is_there, share_of, is_share, IsAscending}
-use Rattle.zone_model.specs.Options.{is_some_and}
-use Rattle.zone_model.specs.Coverage.{has_accepted, may_write}
+use Rattle.name_rules.specs.Options.{is_some_and}
+use Rattle.zone_model.specs.Coverage.{may_write}
+use Rattle.share_records.specs.Permissions.{has_accepted}
 use Rattle.zone_model.specs.Same.{same_record, same_view}
 use Rattle.zone_model.specs.Zones.{zone_at, after_act, commits_at, act_puts, puts_at}
 use Rattle.zone_model.specs.Subscriptions.{subscriptions_at, subscriptions_after}

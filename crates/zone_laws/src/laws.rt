@@ -1,4 +1,8 @@
 // What holds of the rules. The functions do nothing: their clauses are the laws.
+ghost use Rattle.zone_laws.specs.Answering.{EachIsAnswered, StampsAreSet, OutcomesAreWritten, SharedWritesAreAllowed, AnyLeastSetWillDo, MadeWhereWritten};
+ghost use Rattle.zone_laws.specs.Following.{PagesHold, FeedsTellAll, SeenIsTold};
+ghost use Rattle.zone_laws.specs.People.{NobodyIsLetIn};
+ghost use Rattle.zone_laws.specs.Lives.{LivesAreKept};
 ghost use Rattle.zone_laws.specs.Laws.{AlikeIsSame, AncestorsAreFound, RemovalIsLeast, ZonesGrow, ChangesNothing, StaysInOrder, RepeatsAreDropped, ViewsGrow, ZoneEntriesGrow, FeedsLoseNothing, EqualViewsGiveNone, PagesKeepInStep, CopiesStayInStep, NothingIsInStep, EffectsAreInOrder, EffectsAreLawful, EffectsAreInForm, HistoriesStayLegal, PermissionsAreSeen, NothingElseIsSeen, EachIsJudged, OnePutMore, PutsAreFound, OwnersSeeAll, OneIsEitherWay, PlainCreatesAreDone, PlainCreatesAreInForm, ConflictsShowRecords, SharedChangesArePermitted};
 
 /// Records that compare alike are the same, and each compares alike with itself; so do views.
@@ -155,4 +159,66 @@ pub fn conflicts_show_records()
 /// one that its user leaves.
 pub fn shared_changes_are_permitted()
     ensures { SharedChangesArePermitted }
+{}
+
+/// In each lawful log a record's tag is the count of its puts, its parent is kept through its life,
+/// and the records of a zone fit together.
+pub fn lives_are_kept()
+    ensures { LivesAreKept }
+{}
+
+/// A list that its owner gives lets nobody into a share, and leaving takes the permission away.
+pub fn nobody_is_let_in()
+    ensures { NobodyIsLetIn }
+{}
+
+/// The law of pages, between any two histories of which one is the front of the other.
+pub fn pages_hold()
+    ensures { PagesHold }
+{}
+
+/// The feed lists just the zones that are due, each with whether it is here, and what is due stays
+/// due.
+pub fn feeds_tell_all()
+    ensures { FeedsTellAll }
+{}
+
+/// A request has an outcome for each operation; where it is judged as one it makes at most one
+/// commit, and none where something is refused.
+pub fn each_is_answered()
+    ensures { EachIsAnswered }
+{}
+
+/// Whether a zone was seen is told without going over its views.
+pub fn seen_is_told()
+    ensures { SeenIsTold }
+{}
+
+/// Each put of a request has the moment and the user of its commit, as the first stamp too where it
+/// begins a life.
+pub fn stamps_are_set()
+    ensures { StampsAreSet }
+{}
+
+/// What an outcome shows of a put is what its commit wrote, but for the share mark, or was put and
+/// removed at once.
+pub fn outcomes_are_written()
+    ensures { OutcomesAreWritten }
+{}
+
+/// In the shared scope a request writes only what it asks for, what its user leaves and what the
+/// cascade makes of it.
+pub fn shared_writes_are_allowed()
+    ensures { SharedWritesAreAllowed }
+{}
+
+/// The commit of a request rests on any least set of removed names, however it is found.
+pub fn any_least_set_will_do()
+    ensures { AnyLeastSetWillDo }
+{}
+
+/// A request that is judged as one commits something just where some outcome tells of something
+/// written.
+pub fn made_where_written()
+    ensures { MadeWhereWritten }
 {}

@@ -3,7 +3,7 @@ use Rattle.std.specs.Prelude.{◌≡◌, ℕ, zero, suc, Bool, true, not, ◌||�
 use Rattle.std.specs.List.{list_any}
 use Rattle.record_model.specs.declared.records.Record.{Record}
 use Rattle.zone_model.specs.Names.{is_in}
-use Rattle.zone_model.specs.Options.{is_some_and}
+use Rattle.name_rules.specs.Options.{is_some_and}
 use Rattle.zone_model.specs.Records.{names_in}
 use Rattle.zone_model.specs.References.{goes_with}
 use Rattle.zone_model.specs.Ancestry.{is_ancestor}

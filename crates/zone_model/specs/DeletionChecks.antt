@@ -6,7 +6,7 @@ use Rattle.zone_model.specs.declared.operations.Op.{Op}
 use Rattle.zone_model.specs.declared.outcomes.OpFault.{OpFault}
 use Rattle.zone_model.specs.declared.outcomes.OpFault.TheVariants.{NotFound, Conflict, AccessDenied, Validating}
 use Rattle.zone_model.specs.Names.{same, is_in, is_shared}
-use Rattle.zone_model.specs.Options.{is_some_and}
+use Rattle.name_rules.specs.Options.{is_some_and}
 use Rattle.zone_model.specs.Records.{record_at, is_share}
 use Rattle.zone_model.specs.References.{wants, goes_with}
 use Rattle.zone_model.specs.Requests.{is_forced, name_of_op}

@@ -14,7 +14,7 @@ use Rattle.zone_model.specs.Names.{same, is_in, is_shared}
 use Rattle.zone_model.specs.Records.{is_there, with_record, is_share}
 use Rattle.zone_model.specs.Views.{is_empty}
 use Rattle.zone_model.specs.Requests.{Caller, Putting, puts_in, name_of_put, names_deleted}
-use Rattle.zone_model.specs.Sharing.{share_without}
+use Rattle.share_records.specs.ShareLists.{share_without}
 use Rattle.zone_model.specs.Working.{is_share_of, working_view}
 use Rattle.zone_model.specs.Grounds.{names_taken}
 use Rattle.zone_model.specs.Cascade.{removed_names}
@@ -43,9 +43,16 @@ module _ (q : Request) where
   abbrev pub is_new_share_of : List ℕ → Record → Bool
   is_new_share_of root r = is_share_of root r && not (is_there q.seen r.name)
 
-  -- the request puts the name, or a new share that marks it as its root
+  -- the request puts the name
+  abbrev pub is_asked : List ℕ → Bool
+  is_asked x = list_any (λ (p : Putting). same x (name_of_put p)) (puts_in q.ops q.guids)
+
+  -- a new share marks the name as its root
+  abbrev pub is_marked : List ℕ → Bool
+  is_marked x = list_any (is_new_share_of x) working
+
   abbrev pub is_put : List ℕ → Bool
-  is_put x = list_any (λ (p : Putting). same x (name_of_put p)) (puts_in q.ops q.guids) || list_any (is_new_share_of x) working
+  is_put x = is_asked x || is_marked x
 
   -- a participant who deletes a share leaves it
   abbrev pub is_left : Record → Bool
@@ -82,6 +89,7 @@ module _ (q : Request) (gone : List (List ℕ)) where
   abbrev pub is_unmarked : Record → Bool
   is_unmarked r = not (is_in gone r.name) && list_any (λ (s : Record). is_share_of r.name s && is_in gone s.name) (after_puts q)
 
+  -- what is put, marked, left or unmarked is written
   abbrev pub is_written : Record → Bool
   is_written r = is_put q r.name || (is_left q r || is_unmarked r)
 

@@ -4,9 +4,8 @@ use Rattle.std.specs.List.{AllByRecursion}
 use Rattle.ck_base.specs.Names.{IsName}
 use Rattle.ck_base.specs.Order.{are_ascending}
 use Rattle.ck_base.specs.declared.key.ZoneKey.{ZoneKey}
-use Rattle.record_model.specs.declared.value.Value.{Value, out-Value}
-use Rattle.record_model.specs.declared.value.Value.TheOpen.{Value-F}
 use Rattle.record_model.specs.ValueForms.{IsMeant}
+use Rattle.record_model.specs.Counts.{is_counted}
 use Rattle.record_model.specs.declared.filter.Filter.{Filter}
 use Rattle.record_model.specs.declared.subscription.SubKind.{SubKind}
 use Rattle.record_model.specs.declared.subscription.Subscription.{Subscription}
@@ -38,32 +37,11 @@ pub record AreWrites (ws : List Write) : Type 0 where
   pub each : AllByRecursion IsWrite ws
   pub ordered : are_in_order ws ≡ true
 
--- the lengths of texts, bytes and lists are numbers of four bytes
-abbrev pub IsCountedLevel : Value-F Value → Type 0
-IsCountedLevel (Value-F.Int64 n) = Unit {0}
-IsCountedLevel (Value-F.Timestamp n) = Unit {0}
-IsCountedLevel (Value-F.Text t) = length t < 2 ^ 32
-IsCountedLevel (Value-F.Bytes b) = length b < 2 ^ 32
-IsCountedLevel (Value-F.Reference r) = Unit {0}
-IsCountedLevel (Value-F.List k vs) = length vs < 2 ^ 32
-
-abbrev pub AreElementsCounted : Value-F Value → Type 0
-AreElementsCounted (Value-F.Int64 n) = Unit {0}
-AreElementsCounted (Value-F.Timestamp n) = Unit {0}
-AreElementsCounted (Value-F.Text t) = Unit {0}
-AreElementsCounted (Value-F.Bytes b) = Unit {0}
-AreElementsCounted (Value-F.Reference r) = Unit {0}
-AreElementsCounted (Value-F.List k vs) = AllByRecursion (λ v. IsCountedLevel (out-Value v)) vs
-
--- each length in the value fits
-abbrev pub IsCounted : Value → Type 0
-IsCounted v = IsCountedLevel (out-Value v) × AreElementsCounted (out-Value v)
-
 -- the value is one that the comparator takes
 pub record IsFilter (f : Filter) : Type 0 where
   pub field : IsName f.field
   pub value : IsMeant f.value
-  pub counted : IsCounted f.value
+  pub counted : is_counted f.value ≡ true
   pub fitting : fits f.comparator f.value ≡ true
 
 -- a zone's subscription says nothing of records, and a query's names a type and has not too many filters

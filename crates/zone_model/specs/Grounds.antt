@@ -5,7 +5,7 @@ use Rattle.zone_model.specs.declared.operations.Op.{Op}
 use Rattle.zone_model.specs.declared.operations.Past.{Past}
 use Rattle.zone_model.specs.declared.outcomes.OpFault.{OpFault}
 use Rattle.zone_model.specs.Names.{same_option, is_private}
-use Rattle.zone_model.specs.Options.{is_some_and}
+use Rattle.name_rules.specs.Options.{is_some_and}
 use Rattle.zone_model.specs.Records.{record_at, is_there, is_share}
 use Rattle.zone_model.specs.Ancestry.{ancestors}
 use Rattle.zone_model.specs.Coverage.{may_write}
@@ -47,7 +47,7 @@ is_seen g x = is_there g.seen x
 abbrev pub in_working : Grounds → List ℕ → Bool
 in_working g x = is_there g.working x
 
--- The highest permission there is to write. A record that is new is written as its parent is, and a ring of new records is not.
+-- The nearest at or above x that is in the view may be written. So a new record is written as its parent is, and a ring of new ones is not.
 abbrev pub is_writable : Grounds → List ℕ → Bool
 is_writable g x = is_some_and (may_write g.seen g.caller.user) (find (is_seen g) (ancestors g.working x))
 

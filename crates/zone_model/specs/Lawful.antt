@@ -13,7 +13,7 @@ use Rattle.zone_model.specs.declared.commits.Act.TheVariants.{Writes, MakeZone, 
 use Rattle.zone_model.specs.declared.commits.Commit.{Commit}
 use Rattle.zone_model.specs.Limits.{most_participants, most_record_size}
 use Rattle.zone_model.specs.Names.{same, same_option, is_default}
-use Rattle.zone_model.specs.Options.{is_some_and, is_none_or}
+use Rattle.name_rules.specs.Options.{is_some_and, is_none_or}
 use Rattle.zone_model.specs.Records.{record_at, is_there, share_of, is_share}
 use Rattle.zone_model.specs.Zones.{Zone, zone_at, puts_at, after_act}
 use Rattle.zone_model.specs.Subscriptions.{subscriptions_at, has_subscription}

@@ -4,6 +4,7 @@ use Rattle.std.specs.List.{list_all, AllByRecursion}
 use Rattle.ck_base.specs.Names.{lock_of_names}
 use Rattle.zone_model.specs.declared.commits.Commit.{Commit}
 use Rattle.zone_model.specs.declared.events.Event.{Event}
+use Rattle.zone_model.specs.Limits.{most_items}
 use Rattle.zone_model.specs.Events.{origin_of, commits_of, log_of, own}
 use Rattle.zone_model.specs.Form.{IsInForm}
 use Rattle.zone_model.specs.Lawful.{are_lawful}
@@ -11,9 +12,9 @@ use Rattle.zone_model.specs.Lawful.{are_lawful}
 abbrev pub are_of_lock : ℕ → List Commit → Bool
 are_of_lock lock cs = list_all (λ (c : Commit). lock_of_names c.key.owner c.key.zone == lock) cs
 
--- from 1 to 200 commits of the lock, each of which may follow the log and those before it
+-- at least one commit and at most one for each operation of a request, all of the lock, each of which may follow the log and those before it
 abbrev pub are_legal_commits : ℕ → List Commit → List Commit → Bool
-are_legal_commits lock log cs = nat_lt 0 (length cs) && (nat_le (length cs) 200 && (are_of_lock lock cs && are_lawful log cs))
+are_legal_commits lock log cs = nat_lt 0 (length cs) && (nat_le (length cs) most_items && (are_of_lock lock cs && are_lawful log cs))
 
 -- the event may follow those before it: it is the next of its seat, and has legal commits
 abbrev pub is_legal_event : ℕ → List Event → Event → Bool

@@ -1,7 +1,7 @@
 -- the limits, as numbers
 pub mod Limits
 -- tests of what may be missing
-pub mod Options
+pub use Rattle.name_rules.specs.Options
 -- names and keys: when two are the same, and lists of them
 pub mod Names
 -- records of a zone, one for each name
@@ -20,7 +20,7 @@ pub mod Ancestry
 pub mod Coverage
 -- what a user sees of a zone, and has seen
 pub mod Views
--- the change entries of a viewer, and those that are live
+-- the change entries of a viewer
 pub mod Entries
 -- a page of changes
 pub mod Pages
@@ -30,11 +30,13 @@ pub mod ZoneEntries
 pub mod ZoneFeed
 -- the puts and deletions of a request
 pub mod Requests
+-- which operation of a request gives a name again
+pub mod GivenNames
 -- the form of operations that some JSON means
 pub mod OpForms
 -- what has happened to the names that a request puts
 pub mod Past
--- the participants of a share after a request
+-- a share after a request
 pub mod Sharing
 -- the records that puts write
 pub mod Putting

@@ -1,9 +1,18 @@
 -- The limits of the service that the rules speak of.
 use Rattle.std.specs.Prelude.{ℕ}
+pub use Rattle.share_records.specs.Limits.{most_participants}
 
--- the participants of a share besides its owner
-abbrev pub most_participants : ℕ
-most_participants = 100
+-- the operations, names, zones, GUIDs or IDs in a request
+abbrev pub most_items : ℕ
+most_items = 200
+
+-- the zones in a request for the changes of zones
+abbrev pub most_changed_zones : ℕ
+most_changed_zones = 16
+
+-- the entries in a page and the rows of a query
+abbrev pub most_page_entries : ℕ
+most_page_entries = 200
 
 -- the size of a record
 abbrev pub most_record_size : ℕ

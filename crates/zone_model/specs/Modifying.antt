@@ -1,6 +1,7 @@
 -- What a request on records comes to: its answers and its commits.
 use Rattle.std.specs.Prelude.{ℕ, Bool, not, ◌&&◌, List, [], ◌∷◌, ◌++◌, map, zip, Option, None, if◌then◌else◌, option_and_then}
 use Rattle.std.specs.Option.{option_map_or}
+use Rattle.std.specs.List.{flat_map}
 use Rattle.ck_base.specs.declared.key.ZoneKey.{ZoneKey}
 use Rattle.record_model.specs.declared.records.Record.{Record}
 use Rattle.zone_model.specs.declared.operations.Op.{Op}
@@ -11,7 +12,7 @@ use Rattle.zone_model.specs.declared.outcomes.Outcome.TheVariants.{Put, Deleted,
 use Rattle.zone_model.specs.declared.outcomes.Modified.{Modified}
 use Rattle.zone_model.specs.declared.commits.Commit.{Commit}
 use Rattle.zone_model.specs.Names.{is_default}
-use Rattle.zone_model.specs.Options.{or_else}
+use Rattle.name_rules.specs.Options.{or_else}
 use Rattle.zone_model.specs.Records.{record_at}
 use Rattle.zone_model.specs.Zones.{zone_at, puts_at}
 use Rattle.zone_model.specs.Views.{view_of}
@@ -51,6 +52,12 @@ outcome_of q judged = option_map_or (λ fault. Refused fault (shown_with fault q
 abbrev pub is_judged_as_one : ZoneKey → Bool → Bool
 is_judged_as_one key atomic = atomic && not (is_default key)
 
+-- an operation that is done by itself: the log that it finds, and the GUIDs for it and those behind it
+pub record Step : Type 0 where
+  pub log : List Commit
+  pub op : Op
+  pub guids : List (List ℕ)
+
 module _ (caller : Caller) (moment : ℕ) where
   abbrev pub request_at : List Commit → List Op → List (List ℕ) → Request
   request_at log ops guids = record {
@@ -77,12 +84,18 @@ module _ (caller : Caller) (moment : ℕ) where
   }
 
   -- the operations one after another, each at the log with the commits of those before it
+  abbrev pub steps : List Commit → List Op → List (List ℕ) → List Step
+  steps log [] guids = []
+  steps log (op ∷ ops) guids = record { log = log; op = op; guids = guids } ∷ steps (log ++ effect_at log (op ∷ []) guids) ops (guids_left op guids)
+
+  abbrev pub step_done : Step → Modified
+  step_done s = modified_as_one s.log (s.op ∷ []) s.guids
+
   abbrev pub modified_apart : List Commit → List Op → List (List ℕ) → Modified
-  modified_apart log [] guids = record { outcomes = []; commits = [] }
-  modified_apart log (op ∷ ops) guids =
-      let first = modified_as_one log (op ∷ []) guids in
-      let rest = modified_apart (log ++ first.commits) ops (guids_left op guids) in
-      record { outcomes = first.outcomes ++ rest.outcomes; commits = first.commits ++ rest.commits }
+  modified_apart log ops guids = record {
+    outcomes = flat_map (λ s. (step_done s).outcomes) (steps log ops guids);
+    commits = flat_map (λ s. (step_done s).commits) (steps log ops guids);
+  }
 
   abbrev pub modified : List Commit → Bool → List Op → List (List ℕ) → Modified
   modified log atomic ops guids = if is_judged_as_one caller.key atomic then modified_as_one log ops guids else modified_apart log ops guids

@@ -8,7 +8,7 @@ use Rattle.zone_model.specs.declared.commits.Act.{Act}
 use Rattle.zone_model.specs.declared.commits.Act.TheVariants.{Writes, MakeZone, DropZone, SetSubscription, DropSubscription}
 use Rattle.zone_model.specs.declared.commits.Commit.{Commit}
 use Rattle.zone_model.specs.Names.{same, same_key}
-use Rattle.zone_model.specs.Options.{or_else}
+use Rattle.name_rules.specs.Options.{or_else}
 
 -- the commit that puts just this record
 abbrev pub commit_of_put : ZoneKey → List ℕ → ℕ → Record → Commit

@@ -5,7 +5,7 @@ use Rattle.zone_model.specs.declared.commits.Commit.{Commit}
 use Rattle.zone_model.specs.declared.operations.Op.{Op}
 use Rattle.zone_model.specs.declared.operations.Past.{Past}
 use Rattle.zone_model.specs.Names.{same, distinct}
-use Rattle.zone_model.specs.Options.{is_some_and}
+use Rattle.name_rules.specs.Options.{is_some_and}
 use Rattle.zone_model.specs.Records.{is_there}
 use Rattle.zone_model.specs.Zones.{zone_at, puts_at}
 use Rattle.zone_model.specs.Requests.{puts_in, name_of_put}

@@ -15,7 +15,7 @@ use Rattle.zone_model.specs.declared.operations.Op.{Op}
 use Rattle.zone_model.specs.declared.outcomes.OpFault.{OpFault}
 use Rattle.zone_model.specs.declared.outcomes.OpFault.TheVariants.{Exists, BadRequest}
 use Rattle.zone_model.specs.Limits.{most_record_size}
-use Rattle.zone_model.specs.Options.{is_none_or}
+use Rattle.name_rules.specs.Options.{is_none_or}
 use Rattle.zone_model.specs.Records.{is_there}
 use Rattle.zone_model.specs.References.{references_in}
 use Rattle.zone_model.specs.Requests.{Caller, is_create, name_of_draft, has_share_type}

@@ -9,14 +9,14 @@ use Rattle.zone_model.specs.declared.outcomes.OpFault.{OpFault}
 use Rattle.zone_model.specs.declared.outcomes.OpFault.TheVariants.{Exists, NotFound, Conflict, BadRequest, AccessDenied, Validating}
 use Rattle.zone_model.specs.Limits.{most_record_size}
 use Rattle.zone_model.specs.Names.{same, same_option, is_in, is_default, is_shared}
-use Rattle.zone_model.specs.Options.{is_some_and}
+use Rattle.name_rules.specs.Options.{is_some_and}
 use Rattle.record_model.specs.RecordForms.{is_share_type}
 use Rattle.zone_model.specs.Records.{record_at, is_share}
 use Rattle.zone_model.specs.References.{references_in, validates}
 use Rattle.zone_model.specs.Ancestry.{is_ancestor}
 use Rattle.zone_model.specs.Past.{is_taken}
 use Rattle.zone_model.specs.Requests.{Putting, name_of_put, is_create, is_forced, makes_new, begins_share, parent_given, new_parent, root_given, root_tag_given}
-use Rattle.zone_model.specs.Sharing.{is_refused_list}
+use Rattle.share_records.specs.ShareLists.{is_refused_list}
 use Rattle.zone_model.specs.Putting.{written_over}
 use Rattle.zone_model.specs.Grounds.{Grounds, is_stale, is_seen, in_working, is_writable, Check, first_fault}
 

@@ -11,7 +11,8 @@ use Rattle.record_model.specs.declared.records.Record.{Record}
 use Rattle.zone_model.specs.Names.{same}
 use Rattle.zone_model.specs.Records.{record_at}
 use Rattle.zone_model.specs.Requests.{Putting, name_of_put, makes_new, changes_old, drops_fields, has_share_type, new_parent, root_given, first_puts}
-use Rattle.zone_model.specs.Sharing.{share_after, first_share}
+use Rattle.zone_model.specs.Sharing.{share_after}
+use Rattle.share_records.specs.ShareLists.{first_share}
 
 -- ---- fields
 

@@ -1,11 +1,10 @@
 -- Records of a zone, one for each name, in ascending order of names.
-use Rattle.std.specs.Prelude.{◌≡◌, ℕ, Bool, true, not, List, ◌∷◌, ◌++◌, map, filter, find, Option, Some, None, is_some}
+use Rattle.std.specs.Prelude.{◌≡◌, ℕ, Bool, true, not, List, ◌∷◌, ◌++◌, map, filter, find, Option, is_some}
 use Rattle.std.specs.List.{list_any}
 use Rattle.ck_base.specs.Order.{is_before, are_ascending}
 use Rattle.share_records.specs.declared.share.Share.{Share as ShareOf}
-use Rattle.record_model.specs.declared.records.Body.{Body}
-use Rattle.record_model.specs.declared.records.Body.TheVariants.{Plain, Share}
 use Rattle.record_model.specs.declared.records.Record.{Record}
+use Rattle.record_model.specs.RecordForms.{share_in}
 use Rattle.zone_model.specs.Names.{same}
 
 -- the record of that name
@@ -32,10 +31,6 @@ without rows x = filter (λ (q : Record). not (same x q.name)) rows
 -- ---- shares
 
 -- the share that a record is, if it is one
-abbrev pub share_in : Body → Option ShareOf
-share_in Plain = None
-share_in (Share s) = Some s
-
 abbrev pub share_of : Record → Option ShareOf
 share_of r = share_in r.body
 

@@ -12,7 +12,7 @@ use Rattle.zone_model.specs.declared.operations.OpKind.{OpKind}
 use Rattle.zone_model.specs.declared.operations.OpKind.TheVariants.{Create, Update, ForceUpdate, Replace, ForceReplace, Delete, ForceDelete}
 use Rattle.zone_model.specs.declared.operations.Op.{Op}
 use Rattle.zone_model.specs.Names.{same}
-use Rattle.zone_model.specs.Options.{is_some_and}
+use Rattle.name_rules.specs.Options.{is_some_and}
 use Rattle.zone_model.specs.Records.{is_there}
 
 -- who asks, in which scope, and of which zone

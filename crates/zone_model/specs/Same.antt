@@ -4,10 +4,9 @@ use Rattle.std.specs.Ordering.{is_eq}
 use Rattle.std.specs.Cmp.Lexicographic.{pointwise}
 use Rattle.record_model.specs.declared.value.Value.{Value}
 use Rattle.record_model.specs.ValueOrder.{value_cmp}
-use Rattle.share_records.specs.declared.permission.Permission.{Permission}
-use Rattle.share_records.specs.declared.participant.PartKind.{PartKind}
 use Rattle.share_records.specs.declared.participant.Participant.{Participant}
 use Rattle.share_records.specs.declared.share.Share.{Share as ShareOf}
+use Rattle.share_records.specs.Permissions.{is_public, same_permission}
 use Rattle.record_model.specs.declared.records.Stamp.{Stamp}
 use Rattle.record_model.specs.declared.records.Body.{Body}
 use Rattle.record_model.specs.declared.records.Body.TheVariants.{Plain, Share}
@@ -17,19 +16,6 @@ use Rattle.zone_model.specs.Names.{same, same_option}
 
 abbrev pub same_bool : Bool → Bool → Bool
 same_bool a b = cond a b (not b)
-
--- from the least to the most
-abbrev pub rank : Permission → ℕ
-rank Permission.Nothing = 0
-rank Permission.ReadOnly = 1
-rank Permission.ReadWrite = 2
-
-abbrev pub same_permission : Permission → Permission → Bool
-same_permission a b = rank a == rank b
-
-abbrev pub is_public : PartKind → Bool
-is_public PartKind.Member = false
-is_public PartKind.Public = true
 
 abbrev pub same_participant : Participant → Participant → Bool
 same_participant a b = same a.user b.user && (same_bool (is_public a.kind) (is_public b.kind) && (same_permission a.permission b.permission && same_bool a.accepted b.accepted))

@@ -8,11 +8,12 @@ use Rattle.record_model.specs.declared.records.Record.{Record}
 use Rattle.record_model.specs.declared.view.View.{View}
 use Rattle.zone_model.specs.declared.commits.Commit.{Commit}
 use Rattle.zone_model.specs.Names.{same, is_default}
-use Rattle.zone_model.specs.Options.{is_some_and}
+use Rattle.name_rules.specs.Options.{is_some_and}
 use Rattle.zone_model.specs.Records.{share_of}
 use Rattle.zone_model.specs.Same.{same_view}
 use Rattle.zone_model.specs.Zones.{Zone, zone_at}
-use Rattle.zone_model.specs.Coverage.{covers, has_accepted}
+use Rattle.zone_model.specs.Coverage.{covers}
+use Rattle.share_records.specs.Permissions.{has_accepted}
 
 abbrev pub is_empty : {X : Type 0} → List X → Bool
 is_empty [] = true

@@ -1,5 +1,5 @@
 -- The bounds of the work for a commit and for a page.
-use Rattle.std.specs.Prelude.{ℕ, ◌+◌, ◌*◌, List, [], ◌++◌, map, filter, filter_map, length}
+use Rattle.std.specs.Prelude.{ℕ, ◌+◌, ◌*◌, List, [], ◌++◌, map, filter, length}
 use Rattle.std.specs.List.{list_any, flat_map}
 use Rattle.share_records.specs.declared.participant.Participant.{Participant}
 use Rattle.share_records.specs.declared.share.Share.{Share as ShareOf}
@@ -8,9 +8,10 @@ use Rattle.zone_model.specs.declared.commits.Act.{Act}
 use Rattle.zone_model.specs.declared.commits.Act.TheVariants.{Writes, MakeZone, DropZone, SetSubscription, DropSubscription}
 use Rattle.zone_model.specs.declared.commits.Commit.{Commit}
 use Rattle.zone_model.specs.Names.{is_in, distinct}
-use Rattle.zone_model.specs.Records.{share_of, names_in}
+use Rattle.zone_model.specs.Records.{names_in}
 use Rattle.zone_model.specs.Zones.{Zone, zone_at, after_act, written_name}
 use Rattle.zone_model.specs.Ancestry.{is_ancestor}
+use Rattle.zone_model.specs.Coverage.{shares_in}
 
 -- the names that a commit writes; the removal of a zone writes each of its names
 abbrev pub names_written : Zone → Act → List (List ℕ)
@@ -19,9 +20,6 @@ names_written z MakeZone = []
 names_written z DropZone = names_in z.rows
 names_written z (SetSubscription s) = []
 names_written z (DropSubscription scope id) = []
-
-abbrev pub shares_in : List Record → List ShareOf
-shares_in rows = filter_map share_of rows
 
 -- the roots of the shares with these names
 abbrev pub roots_of : List (List ℕ) → List Record → List (List ℕ)

@@ -7,7 +7,7 @@ use Rattle.share_records.specs.declared.share.Share.{Share as ShareOf}
 use Rattle.record_model.specs.declared.records.Record.{Record}
 use Rattle.zone_model.specs.declared.operations.Op.{Op}
 use Rattle.zone_model.specs.Names.{same, is_in, is_private}
-use Rattle.zone_model.specs.Options.{is_some_and, or_else}
+use Rattle.name_rules.specs.Options.{is_some_and, or_else}
 use Rattle.zone_model.specs.Records.{is_there, with_record, share_of}
 use Rattle.zone_model.specs.Requests.{puts_in, names_deleted}
 use Rattle.zone_model.specs.Putting.{records_written}

@@ -6,7 +6,7 @@ use Rattle.zone_model.specs.declared.commits.Commit.{Commit}
 use Rattle.zone_model.specs.Names.{same_key, is_default}
 use Rattle.zone_model.specs.Views.{view_of}
 use Rattle.zone_model.specs.Same.{same_view}
-use Rattle.zone_model.specs.Pages.{Choice, choice}
+use Rattle.name_rules.specs.Choices.{Choice, choice}
 
 -- the commit changes what the user sees of a custom zone, which can only be its own zone
 abbrev pub is_noticed : List ℕ → Scope → List Commit → Commit → Bool

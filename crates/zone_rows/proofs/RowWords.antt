@@ -32,11 +32,11 @@ use Rattle.zone_model.specs.Records.{record_at, share_of}
 use Rattle.zone_model.specs.Zones.{zone_at}
 use Rattle.zone_model.specs.Views.{view_of, views_of}
 use Rattle.zone_model.specs.Entries.{entries}
-use Rattle.zone_model.specs.Options.{is_some_and}
-use Rattle.zone_model.specs.Coverage.{permission_in}
+use Rattle.name_rules.specs.Options.{is_some_and}
+use Rattle.share_records.specs.Permissions.{permission_in}
 use Rattle.zone_model.specs.Pages.{page}
 use Rattle.zone_model.specs.ZoneEntries.{zone_page}
-use Rattle.zone_model.specs.Sharing.{participant_at, with_participant}
+use Rattle.share_records.specs.ShareLists.{participant_at, with_participant}
 use Rattle.zone_model.specs.Modifying.{modified}
 
 -- ---- users and zones

@@ -1,21 +1,36 @@
-use Rattle.std.proofs.Common.{refl}
-use Rattle.talk_model.specs.declared.ends.TalkFaultKind.TheVariants as fault
-use Rattle.ck_command.proofs.ServingLemmas.{ends_served, serves_at, serves_broken}
+use Rattle.std.proofs.Common.{sym, ap, Ok, Err}
+use Rattle.zone_board.specs.Stripes.{solo}
+use Rattle.talk_model.specs.declared.ends.TalkFaultKind.{TalkFaultKind}
+use Rattle.ck_command.specs.declared.endings.Ending.TheVariants.{DeviceFault, OutOfMemory}
+use Rattle.ck_command.specs.Endings.{ending_by}
+use Rattle.ck_command.specs.Serving.{Streams}
+use Rattle.ck_command.proofs.ServingLemmas.{served}
 use Rattle.ck_command.proofs.run.answer_all.Goals as goal
 
-pub returns-in-Ok-clause-serves : goal.returns-in-Ok-clause-serves
-returns-in-Ok-clause-serves g c =
-    rw c.ending_at.ensures.exact (serves_at _ _ _ _ _ _ c.in-Ok.talk.end
-    (ends_served c.args.users.now _ _ _ c.in-Ok.talk.marks.items c.new-board.ensures (λ lock. refl) c.in-Ok.talk.end c.in-Ok.ensures.talk))
+pub returns-in-Ok : goal.returns-in-Ok
+returns-in-Ok g c =
+    let before : Streams = record { left = g.S.Source.left c.args.source.now; source_faults = g.S.Source.fault_count c.args.source.now; held = g.W.Sink.held c.args.sink.now; sink_faults = g.W.Sink.fault_count c.args.sink.now } in
+    let after : Streams = record { left = g.S.Source.left c.converse.new.source; source_faults = g.S.Source.fault_count c.converse.new.source; held = g.W.Sink.held c.converse.new.sink; sink_faults = g.W.Sink.fault_count c.converse.new.sink } in
+    served c.new-board.result c.new-board.ensures.events c.new-board.ensures.turns c.args.users.now _ before after (solo c.converse.new.board) c.in-Ok.talk.marks.items (Ok c.in-Ok.talk.end) c.ending_at.result c.in-Ok.ensures.converses
+    c.ending_at.ensures
 
-pub returns-in-ReadFault-clause-serves : goal.returns-in-ReadFault-clause-serves
-returns-in-ReadFault-clause-serves g c =
-    serves_broken c.args.users.now _ _ _ c.in-Err.fault.marks.items c.new-board.ensures (λ lock. refl) fault.ReadFault (rw c.in-ReadFault.is at c.in-Err.ensures.broken)
+pub returns-in-ReadFault : goal.returns-in-ReadFault
+returns-in-ReadFault g c =
+    let before : Streams = record { left = g.S.Source.left c.args.source.now; source_faults = g.S.Source.fault_count c.args.source.now; held = g.W.Sink.held c.args.sink.now; sink_faults = g.W.Sink.fault_count c.args.sink.now } in
+    let after : Streams = record { left = g.S.Source.left c.converse.new.source; source_faults = g.S.Source.fault_count c.converse.new.source; held = g.W.Sink.held c.converse.new.sink; sink_faults = g.W.Sink.fault_count c.converse.new.sink } in
+    served c.new-board.result c.new-board.ensures.events c.new-board.ensures.turns c.args.users.now _ before after (solo c.converse.new.board) c.in-Err.fault.marks.items (Err c.in-Err.fault.at) DeviceFault c.in-Err.ensures.converses
+    (sym (ap (λ (k : TalkFaultKind). ending_by (Err k)) c.in-ReadFault.is))
 
-pub returns-in-WriteFault-clause-serves : goal.returns-in-WriteFault-clause-serves
-returns-in-WriteFault-clause-serves g c =
-    serves_broken c.args.users.now _ _ _ c.in-Err.fault.marks.items c.new-board.ensures (λ lock. refl) fault.WriteFault (rw c.in-WriteFault.is at c.in-Err.ensures.broken)
+pub returns-in-WriteFault : goal.returns-in-WriteFault
+returns-in-WriteFault g c =
+    let before : Streams = record { left = g.S.Source.left c.args.source.now; source_faults = g.S.Source.fault_count c.args.source.now; held = g.W.Sink.held c.args.sink.now; sink_faults = g.W.Sink.fault_count c.args.sink.now } in
+    let after : Streams = record { left = g.S.Source.left c.converse.new.source; source_faults = g.S.Source.fault_count c.converse.new.source; held = g.W.Sink.held c.converse.new.sink; sink_faults = g.W.Sink.fault_count c.converse.new.sink } in
+    served c.new-board.result c.new-board.ensures.events c.new-board.ensures.turns c.args.users.now _ before after (solo c.converse.new.board) c.in-Err.fault.marks.items (Err c.in-Err.fault.at) DeviceFault c.in-Err.ensures.converses
+    (sym (ap (λ (k : TalkFaultKind). ending_by (Err k)) c.in-WriteFault.is))
 
-pub returns-clause-serves : goal.returns-clause-serves
-returns-clause-serves g c =
-    serves_broken c.args.users.now _ _ _ c.in-Err.fault.marks.items c.new-board.ensures (λ lock. refl) fault.NoMemory (rw c.in-NoMemory.is at c.in-Err.ensures.broken)
+pub returns : goal.returns
+returns g c =
+    let before : Streams = record { left = g.S.Source.left c.args.source.now; source_faults = g.S.Source.fault_count c.args.source.now; held = g.W.Sink.held c.args.sink.now; sink_faults = g.W.Sink.fault_count c.args.sink.now } in
+    let after : Streams = record { left = g.S.Source.left c.converse.new.source; source_faults = g.S.Source.fault_count c.converse.new.source; held = g.W.Sink.held c.converse.new.sink; sink_faults = g.W.Sink.fault_count c.converse.new.sink } in
+    served c.new-board.result c.new-board.ensures.events c.new-board.ensures.turns c.args.users.now _ before after (solo c.converse.new.board) c.in-Err.fault.marks.items (Err c.in-Err.fault.at) OutOfMemory c.in-Err.ensures.converses
+    (sym (ap (λ (k : TalkFaultKind). ending_by (Err k)) c.in-NoMemory.is))

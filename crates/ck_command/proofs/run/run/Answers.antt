@@ -1,24 +1,27 @@
-use Rattle.std.proofs.Common.{◌≡◌, sym, refl, ◌∙◌, Some, None}
+use Rattle.std.proofs.Common.{◌≡◌, sym, refl, ◌∙◌, Some, None, inl, inr}
 use Rattle.ck_command.specs.Arguments.{RunArguments, asked_of}
-use Rattle.ck_command.proofs.ServingLemmas.{converses_served, serves_fixed}
+use Rattle.ck_command.specs.Serving.{Streams}
+use Rattle.ck_command.proofs.ServingLemmas.{serves_fixed, untouched}
 use Rattle.ck_command.proofs.run.run.Goals as goal
 
-pub returns-in-Some-moment-clause-converses : goal.returns-in-Some-moment-clause-converses
-returns-in-Some-moment-clause-converses g c =
+pub returns-in-Some-moment : goal.returns-in-Some-moment
+returns-in-Some-moment g c =
     let asked : RunArguments = record { users = c.in-Some.asked.users.now; moment = Some c.in-Some-moment.moment } in
     let asked_is : asked_of c.args.args.now ≡ Some asked = sym c.in-Some.ensures ∙ (λ i. Some (record { users = c.in-Some.asked.users.now; moment = c.in-Some-moment.is i })) in
-    rw asked_is (converses_served _ _ _ _ _ _ _ _ _ _ (g.F.Shelf.files c.args.shelf.now) asked _ (record {
+    rw asked_is (inr (record {
       table = c.in-Ok.users;
       table_is = c.in-Ok.ensures.table;
-      serves = serves_fixed g.C.Clock.gives _ c.args.clock.now _ _ c.in-Some-moment.moment _ _ c.in-Ok.users _ _ _ _ c.answer_all.result refl c.answer_all.ensures.serves;
+      serves = serves_fixed g.C.Clock.gives _ c.args.clock.now _ _ c.in-Some-moment.moment _ _ _ c.in-Ok.users _ _ c.answer_all.result refl c.answer_all.ensures;
     }))
 
-pub returns-clause-converses : goal.returns-clause-converses
-returns-clause-converses g c =
+pub returns : goal.returns
+returns g c =
     let asked : RunArguments = record { users = c.in-Some.asked.users.now; moment = None } in
     let asked_is : asked_of c.args.args.now ≡ Some asked = sym c.in-Some.ensures ∙ (λ i. Some (record { users = c.in-Some.asked.users.now; moment = c.in-None.is i })) in
-    rw asked_is (converses_served _ _ _ _ _ _ _ _ _ _ (g.F.Shelf.files c.args.shelf.now) asked _ (record {
-      table = c.in-Ok.users;
-      table_is = c.in-Ok.ensures.table;
-      serves = c.answer_all-in-None.ensures.serves;
-    }))
+    rw asked_is (inr (record { table = c.in-Ok.users; table_is = c.in-Ok.ensures.table; serves = c.answer_all-in-None.ensures }))
+
+pub returns-in-Err : goal.returns-in-Err
+returns-in-Err g c =
+    let asked : RunArguments = record { users = c.in-Some.asked.users.now; moment = c.in-Some.asked.moment } in
+    let asked_is : asked_of c.args.args.now ≡ Some asked = sym c.in-Some.ensures in
+    rw asked_is (inl (record { untouched = untouched g.C.Clock.gives _ c.args.clock.now c.args.words.now _; may = c.in-Err.ensures.refused }))

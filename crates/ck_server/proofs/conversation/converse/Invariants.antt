@@ -5,13 +5,12 @@ use Rattle.ck_server.proofs.conversation.converse.Given as goal
 
 abbrev pub invariant-loop-number : goal.invariant-loop-number
 invariant-loop-number g l = record {
-  goes : Goes (g.B.Board.alone l.fn.board) l.users
-      (record { left = g.S.Source.left l.fn.source; held = g.W.Sink.held l.fn.sink; histories = g.B.Board.history l.fn.board; seats = g.B.Board.seats l.fn.board })
-      (record { left = g.S.Source.left l.source; held = g.W.Sink.held l.sink; histories = g.B.Board.history l.board; seats = g.B.Board.seats l.board })
+  goes : Goes l.users
+      (record { left = g.S.Source.left l.fn.source; source_faults = g.S.Source.fault_count l.fn.source; held = g.W.Sink.held l.fn.sink; sink_faults = g.W.Sink.fault_count l.fn.sink; board = g.B.Board.state l.fn.board })
+      (record { left = g.S.Source.left l.source; source_faults = g.S.Source.fault_count l.source; held = g.W.Sink.held l.sink; sink_faults = g.W.Sink.fault_count l.sink; board = g.B.Board.state l.board })
       l.marks.items l.buffer;
   count : l.number ≡ length l.marks.items;
   given : GaveFor g.C.Clock.gives (Draws g.R.Words.gives g.R.Words.fault_count) l.fn.clock l.clock l.fn.words l.words (givens_of l.marks.items);
-  alone : g.B.Board.alone l.fn.board → g.B.Board.alone l.board;
   read : g.S.Source.fault_count l.fn.source ≤ g.S.Source.fault_count l.source;
   written : g.W.Sink.fault_count l.fn.sink ≤ g.W.Sink.fault_count l.sink;
 }

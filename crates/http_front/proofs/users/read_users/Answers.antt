@@ -29,3 +29,9 @@ returns-in_err-read_pairs-clause-refused c =
     rw (fault.1, fault.2)
     (refused_is_no_table (Err c.in_err-read_pairs.field-0.0) c.args.bytes.now
     (λ other. table_refused c.args.bytes.now c.in-Some.first.now c.in-Some.later.now c.in-Some-read_opening.container.now c.in-Some-read_opening.environment.now c.in-Some-read_opening.api_token.now c.in_err-read_pairs.field-0.0 c.in-Some.ensures.pieces c.in-Some-read_opening.ensures (c.in_err-read_pairs.ensures (λ e. other (cc)))))
+
+pub returns-in_err-read_pairs-clause-exact : goal.returns-in_err-read_pairs-clause-exact
+returns-in_err-read_pairs-clause-exact c =
+    let fault = err_from_is_err_and c.from_residual-in_err-read_pairs.result c.from_residual-in_err-read_pairs.ensures.1 in
+    rw (fault.1, fault.2)
+    (λ other. table_refused c.args.bytes.now c.in-Some.first.now c.in-Some.later.now c.in-Some-read_opening.container.now c.in-Some-read_opening.environment.now c.in-Some-read_opening.api_token.now c.in_err-read_pairs.field-0.0 c.in-Some.ensures.pieces c.in-Some-read_opening.ensures (c.in_err-read_pairs.ensures (λ e. other (cc))))

@@ -1,5 +1,5 @@
 use Rattle.std.proofs.Common.{◌≡◌, take, drop}
-use Rattle.modify_ops.specs.Names.{first_again, named_again}
+use Rattle.zone_model.specs.GivenNames.{first_again, named_again}
 use Rattle.modify_ops.proofs.names.first_again.Given as goal
 
 abbrev pub invariant-loop-place : goal.invariant-loop-place

@@ -1,7 +1,8 @@
 use Rattle.std.proofs.Common.{string_bytes}
 use Rattle.std.proofs.lemmas.Str.{IsUtf8-string_bytes}
 use Rattle.serde_json.specs.View.{view}
-use Rattle.wire_calls.proofs.MeansLemmas.{text_means, text_is}
+use Rattle.wire_calls.proofs.CallTextLemmas.{text_is}
+use Rattle.wire_calls.proofs.MeansLemmas.{text_means}
 use Rattle.wire_calls.proofs.call_write.call_text.Goals as goal
 
 pub returns-clause-means : goal.returns-clause-means

@@ -1,0 +1,39 @@
+-- What is made are the commits of the operations.
+use Rattle.std.proofs.Common.{◌≡◌, ◌≤◌, ℕ, List, [], ◌∷◌, ◌++◌, false, refl, sym, ap, ◌∙◌, arith, length, append_assoc, append-nil}
+use Rattle.std.specs.Prelude.{if◌then◌else◌}
+use Rattle.zone_model.specs.declared.commits.Commit.{Commit}
+use Rattle.zone_model.specs.declared.events.Event.{Event}
+use Rattle.zone_model.specs.Events.{commits_of, log_of}
+use Rattle.zone_model.specs.Modifying.{commits_of_request}
+use Rattle.drawn_names.specs.Drawing.{named_ops}
+use Rattle.board_model.specs.declared.parts.Part.{Part}
+use Rattle.board_model.specs.declared.parts.Part.TheVariants.{Modify, Lookup}
+use Rattle.board_model.specs.Asks.{caller_in, guids_at, commits_by, event_of, made}
+use Rattle.board_laws.specs.Answered.{view_for, CommitsAreMade}
+
+pub log-append : (old more : List Event) → log_of (old ++ more) ≡ log_of old ++ log_of more
+log-append [] more = refl
+log-append (e ∷ old) more = ap (λ l. commits_of e ++ l) (log-append old more) ∙ sym (append_assoc (commits_of e) (log_of old) (log_of more))
+
+one_event : (seat : ℕ) (events : List Event) (cs : List Commit) → length (event_of seat events cs) ≤ 1
+one_event seat events [] = omega arith
+one_event seat events (c ∷ cs) = omega arith
+
+its_commits : (seat : ℕ) (events : List Event) (cs : List Commit) → log_of (event_of seat events cs) ≡ cs
+its_commits seat events [] = refl
+its_commits seat events (c ∷ cs) = append-nil (c ∷ cs)
+
+unseen_made : (lock : ℕ) (events : List Event) (part : Part) → (view_for events part).here ≡ false → commits_by lock events part ≡ []
+unseen_made lock events (Modify user scope key atomic ops moment words) e =
+    ap (λ h. if h then commits_of_request (caller_in user scope key) moment (log_of events) atomic (named_ops ops words) (guids_at key ops words) else []) e
+unseen_made lock events (Lookup user scope key names) e = refl
+
+pub commits_made : CommitsAreMade
+commits_made = record {
+  modify = λ lock events user scope key atomic ops moment words here.
+      ap (λ h. if h then commits_of_request (caller_in user scope key) moment (log_of events) atomic (named_ops ops words) (guids_at key ops words) else []) here;
+  lookup = λ lock events user scope key names. refl;
+  unseen = unseen_made;
+  one = λ lock seat events part. one_event seat events (commits_by lock events part);
+  log = λ lock seat events part. log-append events (made lock seat events part) ∙ ap (λ l. log_of events ++ l) (its_commits seat events (commits_by lock events part));
+}

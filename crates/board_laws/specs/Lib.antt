@@ -1,0 +1,4 @@
+-- what is answered and made of a part at a history
+pub mod Answered
+-- what a sight depends on, and what depends on it
+pub mod Sighted

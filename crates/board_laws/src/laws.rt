@@ -1,0 +1,24 @@
+// What holds of asks. The functions do nothing: their clauses are the laws.
+ghost use Rattle.board_laws.specs.Answered.{AnswersAreTold, CommitsAreMade, MadeWhereTold};
+ghost use Rattle.board_laws.specs.Sighted.{SightsDecide};
+
+/// A modify is answered with the outcomes of its operations, a lookup with records of the user's
+/// view, and just where the user sees no such zone it is told so.
+pub fn answers_are_told()
+    ensures { AnswersAreTold }
+{}
+
+/// What is made are the commits of the operations, in one event at most.
+pub fn commits_are_made()
+    ensures { CommitsAreMade }
+{}
+
+/// Equal sights give equal answers, and what changes nothing for the user changes no sight.
+pub fn sights_decide()
+    ensures { SightsDecide }
+{}
+
+/// A modify makes something just where some outcome tells of something written.
+pub fn made_where_told()
+    ensures { MadeWhereTold }
+{}

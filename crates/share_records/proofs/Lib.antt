@@ -1,0 +1,2 @@
+-- which lists of participants are refused
+pub mod ListLemmas

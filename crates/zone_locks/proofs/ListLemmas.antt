@@ -1,0 +1,69 @@
+-- Lists that grow, and the items of a seat.
+use Rattle.std.proofs.Common.{◌≡◌, ◌≢◌, ℕ, ◌≤◌, nat_eq, List, [], ◌∷◌, ◌++◌, length, sym, refl, ap, ◌∙◌, arith, Bool, true, false, append-nil, append_assoc, ne_eqb, eq-eqb, cond}
+use Rattle.std.proofs.lemmas.List.Elements.{filter-append}
+use Rattle.zone_locks.specs.Growing.{StartsWith, own, AreOf, GrownBy}
+
+pub left_nil : {A : Type 0} (xs ys : List A) → xs ++ ys ≡ [] → xs ≡ []
+left_nil [] ys e = refl
+left_nil (x ∷ xs) ys e = absurd (cc)
+
+pub begins_itself : {A : Type 0} (xs : List A) → StartsWith xs xs
+begins_itself xs = ([], sym (append-nil xs))
+
+pub begins_more : {A : Type 0} (xs ys zs : List A) → StartsWith ys xs → StartsWith (ys ++ zs) xs
+begins_more xs ys zs f = (f.0 ++ zs, ap (λ l. l ++ zs) f.1 ∙ append_assoc xs f.0 zs)
+
+abbrev tail_of : {A : Type 0} → List A → List A
+tail_of [] = []
+tail_of (x ∷ xs) = xs
+
+tail_same : {A : Type 0} {x y : A} {xs ys : List A} → x ∷ xs ≡ y ∷ ys → xs ≡ ys
+tail_same e = ap tail_of e
+
+abbrev head_or : {A : Type 0} → A → List A → A
+head_or d [] = d
+head_or d (x ∷ xs) = x
+
+head_same : {A : Type 0} {x y : A} {xs ys : List A} → x ∷ xs ≡ y ∷ ys → x ≡ y
+head_same {x = x} e = ap (head_or x) e
+
+-- of two beginnings of one list one is a beginning of the other
+pub begin_alike : {A : Type 0} (log xs ys more more' : List A) → log ≡ xs ++ more → log ≡ ys ++ more' → length xs ≤ length ys → StartsWith ys xs
+begin_alike log [] ys more more' a b le = (ys, refl)
+begin_alike log (x ∷ xs) [] more more' a b le = absurd (omega arith)
+begin_alike [] (x ∷ xs) (y ∷ ys) more more' a b le = absurd (cc)
+begin_alike (z ∷ log) (x ∷ xs) (y ∷ ys) more more' a b le =
+    let t = begin_alike log xs ys more more' (tail_same a) (tail_same b) (omega arith) in
+    (t.0, λ i. (head_same (sym b ∙ a)) i ∷ t.1 i)
+
+module _ {I : Type 0} (seat_of : I → ℕ) where
+  pub own-append : (n : ℕ) (xs ys : List I) → own seat_of n (xs ++ ys) ≡ own seat_of n xs ++ own seat_of n ys
+  own-append n xs ys = filter-append (λ (x : I). nat_eq (seat_of x) n) xs ys
+
+  pub own_front : (n : ℕ) (log xs : List I) → StartsWith log xs → own seat_of n log ≡ [] → own seat_of n xs ≡ []
+  own_front n log xs f e = left_nil (own seat_of n xs) (own seat_of n f.0) (sym (own-append n xs f.0) ∙ (ap (own seat_of n) (sym f.1) ∙ e))
+
+  pub own_others : (k : ℕ) (added : List I) → AreOf seat_of k added → (j : ℕ) → j ≢ k → own seat_of j added ≡ []
+  own_others k [] all j ne = refl
+  own_others k (x ∷ xs) all j ne =
+      let no_head : nat_eq (seat_of x) j ≡ false = ne_eqb (seat_of x) j (λ e. ne (sym e ∙ all.0)) in
+      ap (λ b. cond b (x ∷ own seat_of j xs) (own seat_of j xs)) no_head ∙ own_others k xs all.1 j ne
+
+  pub own_all : (k : ℕ) (added : List I) → AreOf seat_of k added → own seat_of k added ≡ added
+  own_all k [] all = refl
+  own_all k (x ∷ xs) all = ap (λ b. cond b (x ∷ own seat_of k xs) (own seat_of k xs)) (eq-eqb (seat_of x) k all.0) ∙ ap (λ l. x ∷ l) (own_all k xs all.1)
+
+  pub own-le : (k : ℕ) (xs : List I) → length (own seat_of k xs) ≤ length xs
+  own-le k [] = omega arith
+  own-le k (x ∷ xs) = by_head (own-le k xs) (nat_eq (seat_of x) k)
+    where
+      by_head : length (own seat_of k xs) ≤ length xs → (b : Bool) → length (cond b (x ∷ own seat_of k xs) (own seat_of k xs)) ≤ length (x ∷ xs)
+      by_head h true = omega (arith, h)
+      by_head h false = omega (arith, h)
+
+  -- a list grows by nothing, or by one item of the seat
+  pub grown_by_none : (seat : ℕ) (items : List I) → GrownBy seat_of seat items items
+  grown_by_none seat items = ([], sym (append-nil items), tt)
+
+  pub grown_by_one : (seat : ℕ) (item : I) (items : List I) → seat_of item ≡ seat → GrownBy seat_of seat items (items ++ item ∷ [])
+  grown_by_one seat item items is = (item ∷ [], refl, (is, tt))
