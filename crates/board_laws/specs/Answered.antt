@@ -65,12 +65,14 @@ has_written_by caller moment s = list_any (has_written (view_of s.log caller.use
 -- Of a zone that is there and that the user sees, a modify makes something just where some outcome tells of something written: by what is seen
 -- before the request where it is judged as one, and else before the operation.
 pub record MadeWhereTold : Type 0 where
-  pub as_one : (lock : ℕ) (events : List Event) (user : List ℕ) (scope : Scope) (key : ZoneKey) (atomic : Bool) (ops : List Op) (moment : ℕ) (words : List (List ℕ)) → is_judged_as_one key atomic ≡ true
+  pub as_one : (lock : ℕ) (events : List Event) (user : List ℕ) (scope : Scope) (key : ZoneKey) (atomic : Bool) (ops : List Op) (moment : ℕ) (words : List (List ℕ))
+      → is_judged_as_one key atomic ≡ true
       → are_lawful [] (log_of events) ≡ true → (zone_at (log_of events) key).there ≡ true → has_twice (roots_in (named_ops ops words)) ≡ false
       → (view_of (log_of events) user scope key).here ≡ true
       → makes (commits_by lock events (Modify user scope key atomic ops moment words))
       ≡ list_any (has_written (view_of (log_of events) user scope key).rows) (modified_at events user scope key atomic ops moment words).outcomes
-  pub apart : (lock : ℕ) (events : List Event) (user : List ℕ) (scope : Scope) (key : ZoneKey) (atomic : Bool) (ops : List Op) (moment : ℕ) (words : List (List ℕ)) → is_judged_as_one key atomic ≡ false
+  pub apart : (lock : ℕ) (events : List Event) (user : List ℕ) (scope : Scope) (key : ZoneKey) (atomic : Bool) (ops : List Op) (moment : ℕ) (words : List (List ℕ))
+      → is_judged_as_one key atomic ≡ false
       → are_lawful [] (log_of events) ≡ true → (zone_at (log_of events) key).there ≡ true → (view_of (log_of events) user scope key).here ≡ true
       → makes (commits_by lock events (Modify user scope key atomic ops moment words))
       ≡ list_any (has_written_by (caller_in user scope key) moment) (steps (caller_in user scope key) moment (log_of events) (named_ops ops words) (guids_at key ops words))
