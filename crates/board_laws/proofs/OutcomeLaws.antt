@@ -26,7 +26,8 @@ use Rattle.zone_model.specs.Requests.{Caller, Putting, is_deletion, makes_new, d
 use Rattle.zone_model.specs.Grounds.{Grounds, grounds_of}
 use Rattle.zone_model.specs.PutChecks.{is_new, is_hidden, is_missing, fault_of_put}
 use Rattle.zone_model.specs.DeletionChecks.{fault_of_deletion}
-use Rattle.zone_model.specs.Judging.{faults_from, has_fault}
+use Rattle.zone_model.specs.Judging.{faults_of, has_fault}
+use Rattle.zone_laws.proofs.JudgedLaws.{faults_from, faults_told}
 use Rattle.zone_model.specs.Effect.{Request, working, stamp, stamped}
 use Rattle.zone_model.specs.Modifying.{is_judged_as_one, done, outcome_of, request_at, judgement_at, effect_at, modified_as_one, modified_apart}
 use Rattle.zone_model.specs.Events.{log_of}
@@ -37,7 +38,7 @@ use Rattle.drawn_names.specs.Drawing.{named_ops}
 use Rattle.board_model.specs.declared.parts.Part.{Part}
 use Rattle.board_model.specs.declared.parts.Part.TheVariants.{Modify, Lookup}
 use Rattle.board_model.specs.declared.answers.Answer.{Answer}
-use Rattle.board_model.specs.declared.answers.Answer.TheVariants.{Modify as ModifyAnswer, Lookup as LookupAnswer, NoZone}
+use Rattle.board_model.specs.declared.answers.Answer.TheVariants.{Modify as ModifyAnswer, Lookup as LookupAnswer, NoZone, StoreFailed as NotStored}
 use Rattle.board_model.specs.Sights.{OpSight, puts_seen, op_sight, sights_of, request_seen, outcomes_as_one, outcomes_apart, outcomes_by}
 use Rattle.board_model.specs.Asks.{caller_in, guids_at}
 use Rattle.board_laws.specs.Answered.{answer_at, view_for, modified_at, AnswersAreTold}
@@ -127,7 +128,12 @@ module _ (caller : Caller) (moment : ℕ) (log : List Commit) (all : List Op) (g
     placed_alike (Some r) e = ap Put (stamped_alike r (same-true (name_of_op op) r.name (found-name (working at_log) (name_of_op op) r e)))
 
     put_alike : done as_seen op ≡ done at_log op
-    put_alike = ap (λ o. if is_deletion op.kind then Deleted (name_of_op op) else o) (placed_alike (record_at (working at_log) (name_of_op op)) refl)
+    put_alike = alike_where (is_deletion op.kind)
+      where
+        alike_where : (d : Bool) → option_map_or (λ r. Put (stamped as_seen r)) (if d then None else record_at (working at_log) (name_of_op op)) (Deleted (name_of_op op))
+            ≡ option_map_or (λ r. Put (stamped at_log r)) (if d then None else record_at (working at_log) (name_of_op op)) (Deleted (name_of_op op))
+        alike_where true = refl
+        alike_where false = placed_alike (record_at (working at_log) (name_of_op op)) refl
 
   put_by : (op : Op) (earlier : List (List ℕ)) → is_in (offered all) (name_of_op op) ≡ true → (o : Option OpFault) → fault_of_put its_grounds (record { kind = op.kind; draft = op.draft; guid = [] }) earlier ≡ o → IsAlike (op, o)
   put_by op earlier is_offered (Some fault) e = refl
@@ -136,8 +142,8 @@ module _ (caller : Caller) (moment : ℕ) (log : List Commit) (all : List Op) (g
   deletion_by : (op : Op) → is_deletion op.kind ≡ true → (o : Option OpFault) → IsAlike (op, o)
   deletion_by op is (Some fault) = refl
   deletion_by op is None =
-      ap (λ b. if b then Deleted (name_of_op op) else option_map_or (λ r. Put (stamped as_seen r)) (record_at (working as_seen) (name_of_op op)) (Deleted (name_of_op op))) is
-      ∙ sym (ap (λ b. if b then Deleted (name_of_op op) else option_map_or (λ r. Put (stamped at_log r)) (record_at (working at_log) (name_of_op op)) (Deleted (name_of_op op))) is)
+      ap (λ b. option_map_or (λ r. Put (stamped as_seen r)) (if b then None else (record_at (working as_seen) (name_of_op op))) (Deleted (name_of_op op))) is
+      ∙ sym (ap (λ b. option_map_or (λ r. Put (stamped at_log r)) (if b then None else (record_at (working at_log) (name_of_op op))) (Deleted (name_of_op op))) is)
 
   kind_by : (b : Bool) (op : Op) (ops : List Op) (earlier : List (List ℕ)) → is_deletion op.kind ≡ b
       → IsWithin (map name_of_put (if b then puts_in ops [] else record { kind = op.kind; draft = op.draft; guid = [] } ∷ puts_in ops [])) (offered all)
@@ -167,8 +173,8 @@ module _ (caller : Caller) (moment : ℕ) (log : List Commit) (all : List Op) (g
 
   pub seen_as_one : outcomes_as_one caller moment its_sight all guids ≡ (modified_as_one caller moment log all guids).outcomes
   seen_as_one =
-      let faults = faults_from its_grounds [] all in
-      all_mapped (outcome_of as_seen) (outcome_of at_log) (zip all (judgement_at caller moment log all)) (together_by (has_fault faults) faults (each_alike all [] (λ x i. i)))
+      let faults = faults_of its_grounds all in
+      all_mapped (outcome_of as_seen) (outcome_of at_log) (zip all (judgement_at caller moment log all)) (together_by (has_fault faults) faults (subst (λ fs. AllByRecursion IsAlike (zip all fs)) (sym (faults_told its_grounds all)) (each_alike all [] (λ x i. i))))
 
 -- ---- one after another
 
@@ -206,6 +212,7 @@ not_modify outcomes e = both_ways false refl (sym (ap is_told e))
     is_told (ModifyAnswer os) = true
     is_told (LookupAnswer found) = true
     is_told NoZone = false
+    is_told NotStored = true
 
 not_lookup : (found : List (Option Record)) → LookupAnswer found ≡ NoZone → ⊥
 not_lookup found e = both_ways false refl (sym (ap is_told e))
@@ -214,6 +221,7 @@ not_lookup found e = both_ways false refl (sym (ap is_told e))
     is_told (ModifyAnswer os) = true
     is_told (LookupAnswer fs) = true
     is_told NoZone = false
+    is_told NotStored = true
 
 unseen_told : (lock : ℕ) (events : List Event) (part : Part) → (view_for events part).here ≡ false → answer_at lock events part ≡ NoZone
 unseen_told lock events (Modify user scope key atomic ops moment words) e =

@@ -20,8 +20,8 @@ use Rattle.drawn_names.specs.Drawing.{named_ops}
 use Rattle.board_model.specs.declared.parts.Part.{Part}
 use Rattle.board_model.specs.declared.parts.Part.TheVariants.{Modify, Lookup}
 use Rattle.board_model.specs.declared.answers.Answer.{Answer}
-use Rattle.board_model.specs.declared.answers.Answer.TheVariants.{Modify as ModifyAnswer, Lookup as LookupAnswer, NoZone}
-use Rattle.board_model.specs.Asks.{caller_in, guids_at, sight, answer, commits_by, made, makes}
+use Rattle.board_model.specs.declared.answers.Answer.TheVariants.{Modify as ModifyAnswer, Lookup as LookupAnswer, NoZone, StoreFailed}
+use Rattle.board_model.specs.Asks.{Append, stored, failed, caller_in, guids_at, sight, answer, commits_by, made, makes, told}
 
 -- the answer to a part at a history
 abbrev pub answer_at : ℕ → List Event → Part → Answer
@@ -36,7 +36,7 @@ view_for events (Lookup user scope key names) = view_of (log_of events) user sco
 abbrev pub modified_at : List Event → List ℕ → Scope → ZoneKey → Bool → List Op → ℕ → List (List ℕ) → Modified
 modified_at events user scope key atomic ops moment words = modified (caller_in user scope key) moment (log_of events) atomic (named_ops ops words) (guids_at key ops words)
 
--- Of a zone that the user sees, a modify is answered with the outcomes of its operations, and a lookup with the records of the user's view.
+-- Where its store does not fail: of a zone that the user sees, a modify is answered with the outcomes of its operations, and a lookup with the records of the user's view.
 -- Just of a zone that the user doesn't see it is told so.
 pub record AnswersAreTold : Type 0 where
   pub modify : (lock : ℕ) (events : List Event) (user : List ℕ) (scope : Scope) (key : ZoneKey) (atomic : Bool) (ops : List Op) (moment : ℕ) (words : List (List ℕ))
@@ -55,8 +55,15 @@ pub record CommitsAreMade : Type 0 where
       → commits_by lock events (Modify user scope key atomic ops moment words) ≡ (modified_at events user scope key atomic ops moment words).commits
   pub lookup : (lock : ℕ) (events : List Event) (user : List ℕ) (scope : Scope) (key : ZoneKey) (names : List (List ℕ)) → commits_by lock events (Lookup user scope key names) ≡ []
   pub unseen : (lock : ℕ) (events : List Event) (part : Part) → (view_for events part).here ≡ false → commits_by lock events part ≡ []
-  pub one : (lock seat : ℕ) (events : List Event) (part : Part) → length (made lock seat events part) ≤ 1
-  pub log : (lock seat : ℕ) (events : List Event) (part : Part) → log_of (events ++ made lock seat events part) ≡ log_of events ++ commits_by lock events part
+  pub one : (append : Append) (lock seat : ℕ) (events : List Event) (part : Part) → length (made append lock seat events part) ≤ 1
+  pub log : (lock seat : ℕ) (events : List Event) (part : Part) → log_of (events ++ made stored lock seat events part) ≡ log_of events ++ commits_by lock events part
+
+-- A store that fails commits nothing, and just where something is made it is told instead of the answer.
+pub record FailuresAreTold : Type 0 where
+  pub log_kept : (from to lock seat : ℕ) (events : List Event) (part : Part) → log_of (events ++ made (failed from to) lock seat events part) ≡ log_of events
+  pub failed_told : (from to lock seat : ℕ) (events : List Event) (part : Part) (a : Answer) → makes (commits_by lock events part) ≡ true → told (made (failed from to) lock seat events part) a ≡ StoreFailed
+  pub stored_told : (lock seat : ℕ) (events : List Event) (part : Part) (a : Answer) → told (made stored lock seat events part) a ≡ a
+  pub idle : (append : Append) (lock seat : ℕ) (events : List Event) (part : Part) → makes (commits_by lock events part) ≡ false → made append lock seat events part ≡ []
 
 -- an operation that is done by itself tells of something written
 abbrev pub has_written_by : Caller → ℕ → Step → Bool

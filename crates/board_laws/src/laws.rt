@@ -1,5 +1,5 @@
 // What holds of asks. The functions do nothing: their clauses are the laws.
-ghost use Rattle.board_laws.specs.Answered.{AnswersAreTold, CommitsAreMade, MadeWhereTold};
+ghost use Rattle.board_laws.specs.Answered.{AnswersAreTold, CommitsAreMade, FailuresAreTold, MadeWhereTold};
 ghost use Rattle.board_laws.specs.Sighted.{SightsDecide};
 
 /// A modify is answered with the outcomes of its operations, a lookup with records of the user's
@@ -11,6 +11,12 @@ pub fn answers_are_told()
 /// What is made are the commits of the operations, in one event at most.
 pub fn commits_are_made()
     ensures { CommitsAreMade }
+{}
+
+/// A store that fails commits nothing, and just where something is made its fault is told instead of the
+/// answer.
+pub fn failures_are_told()
+    ensures { FailuresAreTold }
 {}
 
 /// Equal sights give equal answers, and what changes nothing for the user changes no sight.

@@ -5,4 +5,6 @@
 
 mod laws;
 
-pub use laws::{answers_are_told, commits_are_made, made_where_told, sights_decide};
+pub use laws::{
+    answers_are_told, commits_are_made, failures_are_told, made_where_told, sights_decide,
+};

@@ -6,7 +6,7 @@ use Rattle.ck_base.specs.declared.scope.Scope.{Scope}
 use Rattle.zone_model.specs.declared.operations.Op.{Op}
 use Rattle.zone_model.specs.declared.commits.Commit.{Commit}
 use Rattle.zone_model.specs.declared.events.Event.{Event}
-use Rattle.zone_model.specs.declared.events.Event.TheVariants.{Made}
+use Rattle.zone_model.specs.declared.events.Event.TheVariants.{Made, StoreFailed}
 use Rattle.zone_model.specs.Records.{record_at}
 use Rattle.zone_model.specs.Views.{view_of}
 use Rattle.zone_model.specs.Requests.{Caller}
@@ -16,7 +16,7 @@ use Rattle.drawn_names.specs.Drawing.{named_ops, guids_of}
 use Rattle.board_model.specs.declared.parts.Part.{Part}
 use Rattle.board_model.specs.declared.parts.Part.TheVariants.{Modify, Lookup}
 use Rattle.board_model.specs.declared.answers.Answer.{Answer}
-use Rattle.board_model.specs.declared.answers.Answer.TheVariants.{Modify as ModifyAnswer, Lookup as LookupAnswer, NoZone}
+use Rattle.board_model.specs.declared.answers.Answer.TheVariants.{Modify as ModifyAnswer, Lookup as LookupAnswer, NoZone, StoreFailed as NotStored}
 use Rattle.board_model.specs.Sights.{Sight, modifying, viewing, op_sight, sights_of, outcomes_by}
 
 abbrev pub caller_in : List ℕ → Scope → ZoneKey → Caller
@@ -55,15 +55,35 @@ commits_by lock events (Modify user scope key atomic ops moment words) =
     else []
 commits_by lock events (Lookup user scope key names) = []
 
--- the event of these commits, or none
-abbrev pub event_of : ℕ → List Event → List Commit → List Event
-event_of seat events [] = []
-event_of seat events (c ∷ cs) = Made (record { seat = seat; count = suc (length (own seat events)) }) (c ∷ cs) ∷ []
+-- What becomes of commits that a store is to take: they are stored, or the store fails, and its count of faults is then another.
+pub data Append : Type 0 where
+  stored : Append
+  failed : ℕ → ℕ → Append
 
-abbrev pub made : ℕ → ℕ → List Event → Part → List Event
-made lock seat events part = event_of seat events (commits_by lock events part)
+-- the event of these commits, or none
+abbrev pub event_of : Append → ℕ → List Event → List Commit → List Event
+event_of append seat events [] = []
+event_of stored seat events (c ∷ cs) = Made (record { seat = seat; count = suc (length (own seat events)) }) (c ∷ cs) ∷ []
+event_of (failed before after) seat events (c ∷ cs) = StoreFailed (record { seat = seat; count = suc (length (own seat events)) }) before after ∷ []
+
+abbrev pub made : Append → ℕ → ℕ → List Event → Part → List Event
+made append lock seat events part = event_of append seat events (commits_by lock events part)
 
 -- something is made
 abbrev pub makes : List Commit → Bool
 makes [] = false
 makes (c ∷ cs) = true
+
+-- what became of the append whose event is the first of these
+abbrev pub append_in : List Event → Append
+append_in [] = stored
+append_in (Made origin commits ∷ events) = stored
+append_in (StoreFailed origin before after ∷ events) = failed before after
+
+-- the answer that is told: that the store failed, where what was made tells so
+abbrev pub told_by : Append → Answer → Answer
+told_by stored answer = answer
+told_by (failed before after) answer = NotStored
+
+abbrev pub told : List Event → Answer → Answer
+told added answer = told_by (append_in added) answer

@@ -8,7 +8,7 @@ use Rattle.ck_base.specs.declared.scope.Scope.TheVariants.{Private}
 use Rattle.zone_model.specs.declared.operations.Op.{Op}
 use Rattle.zone_model.specs.Names.{is_default}
 use Rattle.zone_model.specs.Form.{IsKey}
-use Rattle.zone_model.specs.PlainCreates.{is_plain_create}
+use Rattle.plain_creates.specs.PlainCreates.{is_plain_create}
 use Rattle.zone_model.specs.OpForms.{AreMeantOps}
 use Rattle.drawn_names.specs.Drawing.{words_drawn}
 use Rattle.board_model.specs.declared.parts.Part.{Part}

@@ -12,6 +12,8 @@ pub enum Answer {
     Lookup(Items<Option<Record>>),
     /// The user sees no such zone.
     NoZone,
+    /// The store failed to take what was made, so nothing was.
+    StoreFailed,
 }
 
 /// What an ask answers: it was taken at the first `len` events of the lock's history, and `event`

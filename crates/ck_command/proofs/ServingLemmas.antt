@@ -22,17 +22,18 @@ use Rattle.ck_command.specs.Endings.{ending_by}
 use Rattle.ck_command.specs.Serving.{Streams, standing, opened, ServesFrom, GivenAre, IsUntouched}
 
 -- a new board has no history and has had no ask
-pub opened_is : (b : List (List Event) × List ℕ) → ((lock : ℕ) → (solo b).histories lock ≡ []) → ((lock : ℕ) → (solo b).turns lock ≡ 0) → solo b ≡ opened (λ lock. [])
-opened_is b empty none = λ i. record { histories = λ lock. empty lock i; seats = λ lock. Some 0; turns = λ lock. none lock i; alone = true }
+pub opened_is : (b : List (List Event) × List (List ℕ)) → ((lock : ℕ) → (solo b).histories lock ≡ []) → ((lock : ℕ) → (solo b).turns lock ≡ []) → solo b ≡ opened (λ lock. [])
+opened_is b empty none = λ i. record { histories = λ lock. empty lock i; seats = λ lock. Some 0; turns = λ lock. none lock i; faults = λ lock. 0; alone = true }
 
 -- a conversation on a new board serves from there
-pub served : (b : List (List Event) × List ℕ) → ((lock : ℕ) → (solo b).histories lock ≡ []) → ((lock : ℕ) → (solo b).turns lock ≡ 0) → (t : Table) (gave : List Given → Type 0) (before after : Streams) (board : BoardState) (marks : List Mark)
-    (outcome : Result End TalkFaultKind) (ending : Ending) → Converses t gave (standing before (solo b)) (standing after board) marks outcome → ending ≡ ending_by outcome → ServesFrom (λ lock. []) t gave before after ending
-served b empty none t gave before after board marks outcome ending k ends = record {
-  board = board;
+pub served : (b : List (List Event) × List (List ℕ)) → ((lock : ℕ) → (solo b).histories lock ≡ []) → ((lock : ℕ) → (solo b).turns lock ≡ []) → (t : Table) (gave : List Given → Type 0) (before after : Streams) (last : List (List Event) × List (List ℕ)) (marks : List Mark)
+    (outcome : Result End TalkFaultKind) (ending : Ending) → Converses t gave (standing before (solo b)) (standing after (solo last)) marks outcome → ending ≡ ending_by outcome → ServesFrom (λ lock. []) t gave before after ending
+served b empty none t gave before after last marks outcome ending k ends = record {
+  board = solo last;
   marks = marks;
   outcome = outcome;
-  converses = subst (λ (x : BoardState). Converses t gave (standing before x) (standing after board) marks outcome) (opened_is b empty none) k;
+  converses = subst (λ (x : BoardState). Converses t gave (standing before x) (standing after (solo last)) marks outcome) (opened_is b empty none) k;
+  unfailed = λ lock. refl;
   ends = ends;
 }
 
@@ -58,6 +59,7 @@ module _ (t : Table) (gave gave2 : List Given → Type 0) (entry now : Standing)
     rest = b.rest;
     last = b.last;
     unsent = b.unsent;
+    some = b.some;
     conversed = b.conversed;
     settled = b.settled;
     ends = b.ends;
@@ -66,17 +68,12 @@ module _ (t : Table) (gave gave2 : List Given → Type 0) (entry now : Standing)
   }
   breaks_given fault.NoMemory b = record {
     rest = b.rest;
-    last = b.last;
-    unsent = b.unsent;
     done = b.done;
     begun = b.begun;
     more = b.more;
     marks_are = b.marks_are;
     conversed = b.conversed;
     in_hand = b.in_hand;
-    ends = b.ends;
-    late = b.late;
-    one_thing = b.one_thing;
     given = f (givens_of marks ++ b.more) b.given;
   }
 
@@ -93,6 +90,7 @@ serves_given opening t gave gave2 before after ending f s = record {
   marks = s.marks;
   outcome = s.outcome;
   converses = converses_given t gave gave2 (standing before (opened opening)) (standing after s.board) s.marks f s.outcome s.converses;
+  unfailed = s.unfailed;
   ends = s.ends;
 }
 
@@ -114,4 +112,4 @@ serves_fixed clock draws c words words2 n before after opening t streams later e
 -- ---- nothing was done
 
 pub untouched : {C R : Type 0} (clock : C → ℕ → C → Type 0) (draws : R → Result (List ℕ) Failed → R → Type 0) (c : C) (words : R) (streams : Streams) → IsUntouched (GivenAre clock draws c c words words) streams streams
-untouched clock draws c words streams = record { given = record { moments = refl; words = refl }; source = refl; sink = refl }
+untouched clock draws c words streams = record { given = record { moments = refl; words = refl }; same = refl }

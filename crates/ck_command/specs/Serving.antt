@@ -34,9 +34,9 @@ pub record Devices : Type 0 where
   pub shelf_faults : ℕ
   pub streams : Streams
 
--- a board of these histories that has had no ask yet: it writes as seat 0, and nobody else adds to them
+-- a board of these histories that has had no ask yet: it writes as seat 0, nobody else adds to them, and its store has not failed
 abbrev pub opened : Histories Event → BoardState
-opened histories = record { histories = histories; seats = λ lock. Some 0; turns = λ lock. 0; alone = true }
+opened histories = record { histories = histories; seats = λ lock. Some 0; turns = λ lock. []; faults = λ lock. 0; alone = true }
 
 -- where its conversation stands
 abbrev pub standing : Streams → BoardState → Standing
@@ -53,13 +53,14 @@ abbrev pub IsTableIn : Option Files → List ℕ → Table → Type 0
 IsTableIn None name t = ⊤
 IsTableIn (Some files) name t = table_in files name ≡ Some t
 
--- The requests of the source were served on a board that had these histories at opening, which is the conversation's theorem; and the run
--- ended as the conversation did.
+-- The requests of the source were served on a board that had these histories at opening, which is the conversation's theorem, and whose store
+-- never failed; and the run ended as the conversation did.
 pub record ServesFrom (opening : Histories Event) (t : Table) (gave : List Given → Type 0) (before after : Streams) (ending : Ending) : Type 0 where
   pub board : BoardState
   pub marks : List Mark
   pub outcome : Result End TalkFaultKind
   pub converses : Converses t gave (standing before (opened opening)) (standing after board) marks outcome
+  pub unfailed : (lock : ℕ) → board.faults lock ≡ 0
   pub ends : ending ≡ ending_by outcome
 
 -- they were served for the table of the file
@@ -68,18 +69,18 @@ pub record ServesFile (opening : Histories Event) (gave : Option ℕ → List Gi
   pub table_is : IsTableIn before.files asked.users table
   pub serves : ServesFrom opening table (gave asked.moment) before.streams after.streams ending
 
--- nothing was taken and nothing written, and no moment read and no word drawn
+-- nothing was taken and nothing written, neither source nor sink has failed, and no moment was read and no word drawn
 pub record IsUntouched (gave : Option ℕ → List Given → Type 0) (before after : Streams) : Type 0 where
   pub given : gave None []
-  pub source : after.left ≡ before.left
-  pub sink : after.held ≡ before.held
+  pub same : after ≡ before
 
 -- no table of users was loaded
 pub record RefusesFile (gave : Option ℕ → List Given → Type 0) (before after : Devices) (asked : RunArguments) (ending : Ending) : Type 0 where
   pub untouched : IsUntouched gave before.streams after.streams
   pub may : MayRefuse before.files asked.users (Rose before.shelf_faults after.shelf_faults) ending
 
--- What a run does and how it ends: at wrong words nothing, and else it serves the requests once it has loaded the table of users.
+-- What a run does and how it ends: at wrong words nothing, of the shelf neither, and else it serves the requests once it has loaded the table of users.
 abbrev pub Runs : Histories Event → (Option ℕ → List Given → Type 0) → Devices → Devices → Option RunArguments → Ending → Type 0
-Runs opening gave before after None ending = (ending ≡ WrongWords) × IsUntouched gave before.streams after.streams
+Runs opening gave before after None ending =
+    (ending ≡ WrongWords) × IsUntouched gave before.streams after.streams × (after.files ≡ before.files) × (after.shelf_faults ≡ before.shelf_faults)
 Runs opening gave before after (Some asked) ending = RefusesFile gave before after asked ending ⊎ ServesFile opening gave before after asked ending

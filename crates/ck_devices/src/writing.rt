@@ -6,7 +6,7 @@ ghost use Rattle.ck_devices.specs.Fronts.{WritesFront};
 
 use crate::{Failed, Sink};
 
-/// Writes all of the bytes. After a fault a front of them was written.
+/// Writes all of the bytes. After a fault a front of them was written, and not all.
 pub fn write_whole<W: Sink>(sink: &mut W, bytes: &[u8]) -> Result<(), Failed>
     ensures ok { OnOk result (Appends (W.held sink.old) (W.held sink.new) bytes.now) }
     ensures err { OnErr result (WritesFront (W.held sink.old) (W.held sink.new) bytes.now) }

@@ -5,6 +5,7 @@ pub mod WishLemmas
 -- the order of participants
 pub mod AscendingLemmas
 -- the record that JSON of a reply shows
+pub mod DraftBackLemmas
 pub mod ShownLemmas
 pub mod ShowsBackLemmas
 pub mod StoredLemmas

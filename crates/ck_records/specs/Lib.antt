@@ -18,7 +18,7 @@ pub mod DraftWriting
 pub mod RoundTrip
 -- which record the JSON in a reply is
 pub mod Replied
--- which record JSON shows
+-- as which draft the JSON of a record in a reply is read
 pub mod Shown
 -- the JSON of records and drafts has no float and is not deep
 pub mod Flat

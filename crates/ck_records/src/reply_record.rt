@@ -1,73 +1,85 @@
 // Reading records as replies have them.
-ghost use Rattle.std.specs.Prelude.{◌≡◌, ◌-◌, Bool, true, Ok, IfOk, IfErr, map};
+ghost use Rattle.std.specs.Prelude.{◌≡◌, ◌-◌, Bool, Some, IfOk, IfErr, IfSome, map};
+ghost use Rattle.std.specs.Result.{result_ok};
 ghost use Rattle.std.specs.List.{list_all};
 ghost use Rattle.serde_json.specs.View.{view};
 ghost use Rattle.ck_base.specs.Order.{are_ascending};
-ghost use Rattle.ck_base.specs.Told.{IsToldUnless};
 ghost use Rattle.record_model.specs.RecordForms.{keeps, IsStored};
 ghost use Rattle.record_model.specs.declared.records.Record.{Record as RecordOf};
 ghost use Rattle.ck_records.specs.Replied.{IsReplyOf};
 ghost use Rattle.record_model.specs.DraftForms.{IsMeantDraft};
 ghost use Rattle.ck_records.specs.Reading.{draft_of};
-ghost use Rattle.ck_records.specs.Shown.{read_well, record_shown, are_kept, body_in_form, is_in_form};
+ghost use Rattle.ck_records.specs.Shown.{Shows, are_kept};
 
 use crate::record_write::record_json;
-use crate::shown::{given_parent, read_heads, read_link, read_stamps, with_values};
+use crate::shown::{given_fields, given_parent, read_heads, read_link, read_stamp};
 use crate::shown_share::read_body;
-use crate::{Body, Draft, Record, RecordFault, ReplyRecordFault, read_record};
-use ck_base::ZoneKey;
+use crate::{Draft, Record, RecordFault, ReplyRecordFault, read_record};
+use ck_base::{NoMemory, ZoneKey};
 use field_values::{member, same_json};
-use record_model::{are_counted, fits_two_bytes};
+use record_model::fits_two_bytes;
 use serde_json::Value as Json;
 use share_records::{PartKind, Participant, Permission};
 use std::alloc::Global;
 
 // What the JSON is in a request.
-fn read_draft(alloc: Global, json: &Json, here: &ZoneKey) -> Result<Draft, ReplyRecordFault>
-    ensures draft { IsToldUnless ReplyRecordFault.NoMemory result
-        (read_well (draft_of here.now here.now.owner (view json.now))) }
-    ensures meant { IfOk result IsMeantDraft }
+fn read_draft(alloc: Global, json: &Json, here: &ZoneKey) -> Result<Option<Draft>, NoMemory>
+    ensures draft { IfOk result (λ draft.
+        draft ≡ result_ok (draft_of here.now here.now.owner (view json.now))) }
+    ensures meant { IfOk result (λ draft. IfSome draft IsMeantDraft) }
 {
     match read_record(alloc, json, here, &here.owner) {
-        Ok(draft) => Ok(draft),
-        Err(RecordFault::NoMemory) => Err(ReplyRecordFault::NoMemory),
-        Err(_) => Err(ReplyRecordFault::NotARecord),
+        Ok(draft) => Ok(Some(draft)),
+        Err(RecordFault::NoMemory) => Err(NoMemory),
+        Err(_) => Ok(None),
     }
 }
 
 // The record of a draft and of the members that replies alone have.
-fn read_members(alloc: Global, json: &Json, draft: &Draft) -> Result<Record, ReplyRecordFault>
-    ensures shown { IsToldUnless ReplyRecordFault.NoMemory result
-        (record_shown draft.now (view json.now)) }
-    ensures meant { IsMeantDraft draft.now → IfOk result (λ r. is_in_form r ≡ true → IsStored r) }
+fn read_members(alloc: Global, json: &Json, draft: &Draft) -> Result<Option<Record>, NoMemory>
+    ensures back { (r : RecordOf) → Shows draft.now (view json.now) r
+        → IfOk result (λ found. found ≡ Some r) }
+    ensures stored { IsMeantDraft draft.now → IfOk result (λ found. IfSome found IsStored) }
 {
-    let (name, rtype, tag) = read_heads(draft)?;
-    let share = read_link(alloc, member(json, "share"))?;
-    let fields = with_values(alloc, draft.fields.as_slice())?;
-    let (created, modified) = read_stamps(alloc, json)?;
-    let body = read_body(alloc, &rtype, json, draft)?;
-    Ok(Record {
+    let Some((name, rtype, tag)) = read_heads(draft)? else {
+        return Ok(None);
+    };
+    let Some(fields) = given_fields(alloc, draft.fields.as_slice())? else {
+        return Ok(None);
+    };
+    let Some(created) = read_stamp(alloc, member(json, "created"))? else {
+        return Ok(None);
+    };
+    let Some(modified) = read_stamp(alloc, member(json, "modified"))? else {
+        return Ok(None);
+    };
+    let Some(body) = read_body(alloc, &rtype, json, draft)? else {
+        return Ok(None);
+    };
+    Ok(Some(Record {
         name,
         rtype,
         tag,
         parent: given_parent(&draft.parent)?,
-        share,
+        share: read_link(alloc, member(json, "share"))?,
         fields,
         created,
         modified,
         body,
-    })
+    }))
 }
 
-// The record that the JSON is in a reply, if it is one.
-fn read_shown(alloc: Global, json: &Json, here: &ZoneKey) -> Result<Record, ReplyRecordFault>
+// The record in its form for which the JSON may be what is written, and no other.
+fn read_shown(alloc: Global, json: &Json, here: &ZoneKey) -> Result<Option<Record>, NoMemory>
     ensures back { (as_text : Bool) (r : RecordOf)
         → IsReplyOf here.now.owner as_text (view json.now) r
-        → IsToldUnless ReplyRecordFault.NoMemory result (Ok r) }
-    ensures meant { IfOk result (λ r. is_in_form r ≡ true → IsStored r) }
+        → IfOk result (λ found. found ≡ Some r) }
+    ensures stored { IfOk result (λ found. IfSome found IsStored) }
 {
-    let draft = read_draft(alloc, json, here)?;
-    read_members(alloc, json, &draft)
+    match read_draft(alloc, json, here)? {
+        Some(draft) => read_members(alloc, json, &draft),
+        None => Ok(None),
+    }
 }
 
 fn keeps(participant: &Participant) -> bool
@@ -98,25 +110,10 @@ fn are_ascending(participants: &[Participant]) -> bool
     true
 }
 
-fn are_kept(participants: &[Participant]) -> bool
+pub(crate) fn are_kept(participants: &[Participant]) -> bool
     ensures { result ≡ are_kept participants.now }
 {
     keeps_all(participants) && are_ascending(participants) && fits_two_bytes(participants.len())
-}
-
-fn body_in_form(body: &Body) -> bool
-    ensures { result ≡ body_in_form body.now }
-{
-    match body {
-        Body::Plain => true,
-        Body::Share(share) => are_kept(share.participants.as_slice()),
-    }
-}
-
-fn is_in_form(record: &Record) -> bool
-    ensures { result ≡ is_in_form «record».now }
-{
-    record.tag > 0 && are_counted(record.fields.as_slice()) && body_in_form(&record.body)
 }
 
 /// The record that JSON is in a reply, as `record_json` writes it, in the zone `here`, whose whole
@@ -133,10 +130,9 @@ pub fn read_reply_record(
     ensures other { IfErr result (λ fault. fault ≡ ReplyRecordFault.NotARecord → (r : Record)
         → IsReplyOf here.now.owner numbers_as_strings (view json.now) r → ⊥) }
 {
-    let record = read_shown(alloc, json, here)?;
-    if !is_in_form(&record) {
+    let Some(record) = read_shown(alloc, json, here)? else {
         return Err(ReplyRecordFault::NotARecord);
-    }
+    };
     let written = record_json(alloc, &record, &here.owner, numbers_as_strings)?;
     if same_json(alloc, json, &written)? {
         Ok(record)

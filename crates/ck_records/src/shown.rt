@@ -1,113 +1,101 @@
-// What a record in a reply has beside what drafts have, and the fields of a record from those of a
-// draft.
-ghost use Rattle.std.specs.Prelude.{◌≡◌, ◌<◌, ◌^◌, IfOk, IfErr, IfSome, option_map, option_and_then};
+// What a record in a reply has beside what drafts have, and the parts of a record from those of a
+// draft. What they are not is told by the last test of `read_reply_record`.
+ghost use Rattle.std.specs.Prelude.{◌≡◌, ◌<◌, ◌^◌, ℕ, List, Option, Some, IfOk, IfSome, map, codes, decimal, option_map, option_and_then};
 ghost use Rattle.serde_json.specs.View.{view};
 ghost use Rattle.ck_base.specs.Names.{IsName};
 ghost use Rattle.ck_base.specs.Numbers.{number_of};
-ghost use Rattle.ck_base.specs.Told.{IsToldUnless};
+ghost use Rattle.field_values.specs.Members.{found};
 ghost use Rattle.field_values.specs.References.{name_in as name_told};
-ghost use Rattle.record_model.specs.DraftForms.{IsParentWish, IsMeantDraft};
-ghost use Rattle.record_model.specs.RecordForms.{IsStamp};
-ghost use Rattle.ck_records.specs.Shown.{needed, link_shown, stamp_shown, stamps_shown, with_value, with_values, parent_shown, heads_shown};
+ghost use Rattle.record_model.specs.declared.value.Value.{Value as ValueOf};
+ghost use Rattle.record_model.specs.declared.records.Record.{Record as RecordOf};
+ghost use Rattle.record_model.specs.declared.records.Stamp.{Stamp as StampOf};
+ghost use Rattle.record_model.specs.DraftForms.{IsParentWish, IsMeantDraft, AreWishes};
+ghost use Rattle.record_model.specs.RecordForms.{AreFields, IsStamp};
+ghost use Rattle.ck_records.specs.Writing.{stamp_data};
+ghost use Rattle.ck_records.specs.Shown.{as_wish, as_parent, as_draft};
 
-use crate::{Draft, Field, Fields, ParentWish, ReplyRecordFault, Stamp, Wish};
-use ck_base::{Items, Name, RecordName, Text, read_number};
+use crate::{Draft, Fields, ParentWish, Stamp, Wish};
+use ck_base::{Items, NoMemory, RecordName, Text, read_number};
 use field_values::{copy_value, member, name_in};
+use record_model::are_counted;
 use serde_json::Value as Json;
 use std::alloc::Global;
 
-fn read_name<K>(alloc: Global, json: Option<&Json>) -> Result<Name<K>, ReplyRecordFault>
-    ensures name { IsToldUnless ReplyRecordFault.NoMemory result
-        (needed (name_told (option_map (λ v. view v.now) json.entry))) }
-    ensures meant { IfOk result IsName }
-{
-    match name_in(alloc, json)? {
-        Some(name) => Ok(name),
-        None => Err(ReplyRecordFault::NotARecord),
-    }
-}
-
 /// The name of another record, where there is one.
-pub(crate) fn read_link(
-    alloc: Global,
-    json: Option<&Json>,
-) -> Result<Option<RecordName>, ReplyRecordFault>
-    ensures link { IsToldUnless ReplyRecordFault.NoMemory result
-        (link_shown (option_map (λ v. view v.now) json.entry)) }
+pub(crate) fn read_link(alloc: Global, json: Option<&Json>) -> Result<Option<RecordName>, NoMemory>
+    ensures link { IfOk result (λ link. link ≡ option_and_then
+        (λ d. name_told (found (codes "recordName") d)) (option_map (λ v. view v.now) json.entry)) }
     ensures meant { IfOk result (λ link. IfSome link IsName) }
 {
     match json {
-        Some(json) => Ok(Some(read_name(alloc, member(json, "recordName"))?)),
+        Some(json) => name_in(alloc, member(json, "recordName")),
         None => Ok(None),
     }
 }
 
-// When and by whom a record was written.
-fn read_stamp(alloc: Global, json: Option<&Json>) -> Result<Stamp, ReplyRecordFault>
-    ensures stamp { IsToldUnless ReplyRecordFault.NoMemory result
-        (stamp_shown (option_map (λ v. view v.now) json.entry)) }
-    ensures meant { IfOk result IsStamp }
+/// When and by whom a record was written.
+pub(crate) fn read_stamp(alloc: Global, json: Option<&Json>) -> Result<Option<Stamp>, NoMemory>
+    ensures back { (s : StampOf) → IsStamp s
+        → option_map (λ v. view v.now) json.entry ≡ Some (stamp_data s)
+        → IfOk result (λ stamp. stamp ≡ Some s) }
+    ensures meant { IfOk result (λ stamp. IfSome stamp IsStamp) }
 {
     let Some(json) = json else {
-        return Err(ReplyRecordFault::NotARecord);
+        return Ok(None);
     };
     let Some(moment) = member(json, "timestamp").and_then(Json::as_u64) else {
-        return Err(ReplyRecordFault::NotARecord);
+        return Ok(None);
     };
-    let user = read_name(alloc, member(json, "userRecordName"))?;
-    Ok(Stamp { moment, user })
+    match name_in(alloc, member(json, "userRecordName"))? {
+        Some(user) => Ok(Some(Stamp { moment, user })),
+        None => Ok(None),
+    }
 }
 
-/// When and by whom a record was created and modified.
-pub(crate) fn read_stamps(alloc: Global, json: &Json) -> Result<(Stamp, Stamp), ReplyRecordFault>
-    ensures stamps { IsToldUnless ReplyRecordFault.NoMemory result (stamps_shown (view json.now)) }
-    ensures meant { IfOk result (λ stamps. IsStamp stamps.0 × IsStamp stamps.1) }
+// The number that a text is.
+fn number_in(text: &Option<Text>) -> Option<u64>
+    ensures { result ≡ option_and_then number_of text.now }
 {
-    let created = read_stamp(alloc, member(json, "created"))?;
-    let modified = read_stamp(alloc, member(json, "modified"))?;
-    Ok((created, modified))
-}
-
-// The name that a draft has to have.
-fn given_name(name: &Option<RecordName>) -> Result<RecordName, ReplyRecordFault>
-    ensures name { IsToldUnless ReplyRecordFault.NoMemory result (needed name.now) }
-    ensures meant { IfSome name.now IsName → IfOk result IsName }
-{
-    match name {
-        Some(name) => Ok(name.clone()?),
-        None => Err(ReplyRecordFault::NotARecord),
+    match text {
+        Some(text) => read_number(text.as_str()),
+        None => None,
     }
 }
 
 // The change tag that a text is.
-fn given_tag(tag: &Option<Text>) -> Result<u64, ReplyRecordFault>
-    ensures { result ≡ needed (option_and_then number_of tag.now) }
+#[tactic(auto, using(crate::proofs::ShowsBackLemmas::tag_given))]
+fn given_tag(text: &Option<Text>) -> Option<u64>
+    ensures back { (n : ℕ) → 0 < n → n < 2 ^ 64 → text.now ≡ Some (decimal n) → result ≡ Some n }
+    ensures some { IfSome result (λ n. 0 < n) }
 {
-    let Some(text) = tag else {
-        return Err(ReplyRecordFault::NotARecord);
-    };
-    match read_number(text.as_str()) {
-        Some(tag) => Ok(tag),
-        None => Err(ReplyRecordFault::NotARecord),
+    match number_in(text) {
+        Some(tag) if tag > 0 => Some(tag),
+        _ => None,
     }
 }
 
 /// The name of a record, its type and its tag.
-pub(crate) fn read_heads(draft: &Draft) -> Result<(RecordName, RecordName, u64), ReplyRecordFault>
-    ensures heads { IsToldUnless ReplyRecordFault.NoMemory result (heads_shown draft.now) }
-    ensures meant { IsMeantDraft draft.now → IfOk result (λ heads. IsName heads.0 × IsName heads.1) }
-    ensures fits { IfOk result (λ heads. heads.2 < 2 ^ 64) }
+pub(crate) fn read_heads(draft: &Draft) -> Result<Option<(RecordName, RecordName, u64)>, NoMemory>
+    ensures back { (r : RecordOf) → draft.now ≡ as_draft r → 0 < r.tag → r.tag < 2 ^ 64
+        → IfOk result (λ heads. heads ≡ Some (r.name, r.rtype, r.tag)) }
+    ensures meant { IsMeantDraft draft.now → IfOk result (λ found. IfSome found (λ heads.
+        IsName heads.0 × IsName heads.1 × (0 < heads.2) × (heads.2 < 2 ^ 64))) }
 {
-    let name = given_name(&draft.name)?;
-    let rtype = given_name(&draft.rtype)?;
-    let tag = given_tag(&draft.tag)?;
-    Ok((name, rtype, tag))
+    let Some(name) = &draft.name else {
+        return Ok(None);
+    };
+    let Some(rtype) = &draft.rtype else {
+        return Ok(None);
+    };
+    let Some(tag) = given_tag(&draft.tag) else {
+        return Ok(None);
+    };
+    Ok(Some((name.clone()?, rtype.clone()?, tag)))
 }
 
 /// The parent, where there is one.
-pub(crate) fn given_parent(parent: &ParentWish) -> Result<Option<RecordName>, ReplyRecordFault>
-    ensures parent { IfOk result (λ name. name ≡ parent_shown parent.now) }
-    ensures memory { IfErr result (λ fault. fault ≡ ReplyRecordFault.NoMemory) }
+pub(crate) fn given_parent(parent: &ParentWish) -> Result<Option<RecordName>, NoMemory>
+    ensures back { (o : Option (List ℕ)) → parent.now ≡ as_parent o → IfOk result (λ name. name ≡ o) }
     ensures meant { IsParentWish parent.now → IfOk result (λ name. IfSome name IsName) }
 {
     match parent {
@@ -116,22 +104,30 @@ pub(crate) fn given_parent(parent: &ParentWish) -> Result<Option<RecordName>, Re
     }
 }
 
-fn with_value(alloc: Global, wish: &Wish) -> Result<Field, ReplyRecordFault>
-    ensures { IsToldUnless ReplyRecordFault.NoMemory result (with_value wish.now) }
-{
-    match &wish.1 {
-        Some(value) => Ok((wish.0.clone()?, copy_value(alloc, value)?)),
-        None => Err(ReplyRecordFault::NotARecord),
-    }
-}
-
-/// The fields, where each has a value.
-pub(crate) fn with_values(alloc: Global, wishes: &[Wish]) -> Result<Fields, ReplyRecordFault>
-    ensures { IsToldUnless ReplyRecordFault.NoMemory result (with_values wishes.now) }
+// The fields of which these are the wishes.
+fn with_values(alloc: Global, wishes: &[Wish]) -> Result<Option<Fields>, NoMemory>
+    ensures values { IfOk result (λ found. IfSome found (λ fields. map as_wish fields ≡ wishes.now)) }
+    ensures back { (fields : List (List ℕ × ValueOf)) → wishes.now ≡ map as_wish fields
+        → IfOk result (λ found. found ≡ Some fields) }
 {
     let mut fields = Vec::new(alloc);
     for wish in wishes {
-        fields.push(with_value(alloc, wish)?)?;
+        let Some(value) = &wish.1 else {
+            return Ok(None);
+        };
+        fields.push((wish.0.clone()?, copy_value(alloc, value)?))?;
     }
-    Ok(Items::from_vec(fields))
+    Ok(Some(Items::from_vec(fields)))
+}
+
+/// The fields of which these are the wishes, where they can be counted.
+pub(crate) fn given_fields(alloc: Global, wishes: &[Wish]) -> Result<Option<Fields>, NoMemory>
+    ensures back { (fields : List (List ℕ × ValueOf)) → wishes.now ≡ map as_wish fields
+        → AreFields fields → IfOk result (λ found. found ≡ Some fields) }
+    ensures meant { AreWishes wishes.now → IfOk result (λ found. IfSome found AreFields) }
+{
+    match with_values(alloc, wishes)? {
+        Some(fields) if are_counted(fields.as_slice()) => Ok(Some(fields)),
+        _ => Ok(None),
+    }
 }

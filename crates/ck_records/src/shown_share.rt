@@ -1,15 +1,19 @@
 // What a share in a reply has beside what drafts have.
-ghost use Rattle.std.specs.Prelude.{◌≡◌, true, IfOk, map, drop, option_map, option_and_then};
+ghost use Rattle.std.specs.Prelude.{◌≡◌, [], Some, IfOk, IfSome, map, drop, option_map, option_and_then};
+ghost use Rattle.std.specs.Option.{option_map_or};
 ghost use Rattle.serde_json.specs.View.{view};
-ghost use Rattle.serde_json.specs.Find.{as_array};
-ghost use Rattle.ck_base.specs.Guids.{IsGuid};
-ghost use Rattle.ck_base.specs.Told.{IsToldUnless};
+ghost use Rattle.serde_json.specs.Find.{as_array, as_str};
+ghost use Rattle.ck_base.specs.Guids.{IsGuid, guid_of};
+ghost use Rattle.field_values.specs.Members.{elements};
+ghost use Rattle.share_records.specs.declared.share.Share.{Share as ShareOf};
+ghost use Rattle.record_model.specs.declared.records.Body.TheVariants.{Share as ShareBody};
+ghost use Rattle.record_model.specs.declared.records.Record.{Record as RecordOf};
 ghost use Rattle.record_model.specs.DraftForms.{IsMeantDraft};
-ghost use Rattle.record_model.specs.RecordForms.{IsBodyOf};
-ghost use Rattle.ck_records.specs.Shown.{is_accepted, own_permission, participant_of, with_statuses, participants_shown};
-ghost use Rattle.ck_records.specs.Shown.{guid_shown, share_shown, body_shown, body_in_form};
+ghost use Rattle.record_model.specs.RecordForms.{IsShare, IsBodyOf};
+ghost use Rattle.ck_records.specs.Shown.{Shows, is_accepted, own_permission, participant_of, with_statuses};
 
-use crate::{Body, Draft, ReplyRecordFault};
+use crate::reply_record::are_kept;
+use crate::{Body, Draft};
 use ck_base::{Guid, Items, NoMemory, RecordName};
 use field_values::member;
 use record_model::is_share_type;
@@ -72,55 +76,55 @@ fn after_first(entries: &[Json]) -> &[Json]
 }
 
 #[tactic(auto, using(field_values::proofs::ListLemmas::elements_items))]
-fn read_participants(
-    alloc: Global,
-    list: &[Wanted],
-    json: Option<&Json>,
-) -> Result<Participants, ReplyRecordFault>
-    ensures list { IsToldUnless ReplyRecordFault.NoMemory result
-        (participants_shown list.now (option_and_then as_array (option_map (λ v. view v.now) json.entry))) }
+fn entries_in(json: Option<&Json>) -> &[Json]
+    ensures { map view result.now ≡ option_map_or elements
+        (option_and_then as_array (option_map (λ v. view v.now) json.entry)) [] }
 {
     match json.and_then(Json::as_array) {
-        Some(entries) => Ok(with_statuses(alloc, list, after_first(entries))?),
-        None => Err(ReplyRecordFault::NotARecord),
+        Some(entries) => entries,
+        None => &[],
     }
 }
 
-fn read_guid(json: Option<&Json>) -> Result<Guid, ReplyRecordFault>
-    ensures guid { result ≡ guid_shown (option_map (λ v. view v.now) json.entry) }
-    ensures meant { IfOk result IsGuid }
+fn read_guid(json: Option<&Json>) -> Option<Guid>
+    ensures guid { result ≡ option_and_then guid_of
+        (option_and_then as_str (option_map (λ v. view v.now) json.entry)) }
+    ensures meant { IfSome result IsGuid }
 {
     match json.and_then(Json::as_str) {
-        Some(digits) => match Guid::from_bytes(digits.as_bytes()) {
-            Some(guid) => Ok(guid),
-            None => Err(ReplyRecordFault::NotARecord),
-        },
-        None => Err(ReplyRecordFault::NotARecord),
+        Some(digits) => Guid::from_bytes(digits.as_bytes()),
+        None => None,
     }
 }
 
-fn read_share(alloc: Global, json: &Json, draft: &Draft) -> Result<Share, ReplyRecordFault>
-    ensures share { IsToldUnless ReplyRecordFault.NoMemory result
-        (share_shown draft.now (view json.now)) }
-    ensures guid { IfOk result (λ s. IsGuid s.guid) }
+fn read_share(alloc: Global, json: &Json, draft: &Draft) -> Result<Option<Share>, NoMemory>
+    ensures back { (r : RecordOf) (s : ShareOf) → Shows draft.now (view json.now) r
+        → r.body ≡ ShareBody s → IfOk result (λ found. found ≡ Some s) }
+    ensures meant { IsMeantDraft draft.now → IfOk result (λ found. IfSome found IsShare) }
 {
     let Some(root) = &draft.for_root else {
-        return Err(ReplyRecordFault::NotARecord);
+        return Ok(None);
     };
-    let guid = read_guid(member(json, "shortGUID"))?;
     let Some(public) = draft.public else {
-        return Err(ReplyRecordFault::NotARecord);
+        return Ok(None);
     };
     let Some(list) = &draft.participants else {
-        return Err(ReplyRecordFault::NotARecord);
+        return Ok(None);
     };
-    let participants = read_participants(alloc, list.as_slice(), member(json, "participants"))?;
-    Ok(Share {
+    let Some(guid) = read_guid(member(json, "shortGUID")) else {
+        return Ok(None);
+    };
+    let entries = after_first(entries_in(member(json, "participants")));
+    let participants = with_statuses(alloc, list.as_slice(), entries)?;
+    if !are_kept(participants.as_slice()) {
+        return Ok(None);
+    }
+    Ok(Some(Share {
         root: root.name.clone()?,
         guid,
         public,
         participants,
-    })
+    }))
 }
 
 /// What the record is beside its fields: a share where its type is that of shares.
@@ -129,15 +133,17 @@ pub(crate) fn read_body(
     rtype: &RecordName,
     json: &Json,
     draft: &Draft,
-) -> Result<Body, ReplyRecordFault>
-    ensures body { IsToldUnless ReplyRecordFault.NoMemory result
-        (body_shown rtype.now draft.now (view json.now)) }
-    ensures meant { IsMeantDraft draft.now → IfOk result (λ body.
-        body_in_form body ≡ true → IsBodyOf rtype.now body) }
+) -> Result<Option<Body>, NoMemory>
+    ensures back { (r : RecordOf) → Shows draft.now (view json.now) r → rtype.now ≡ r.rtype
+        → IfOk result (λ body. body ≡ Some r.body) }
+    ensures meant { IsMeantDraft draft.now
+        → IfOk result (λ body. IfSome body (IsBodyOf rtype.now)) }
 {
-    if is_share_type(rtype) {
-        Ok(Body::Share(read_share(alloc, json, draft)?))
-    } else {
-        Ok(Body::Plain)
+    if !is_share_type(rtype) {
+        return Ok(Some(Body::Plain));
+    }
+    match read_share(alloc, json, draft)? {
+        Some(share) => Ok(Some(Body::Share(share))),
+        None => Ok(None),
     }
 }

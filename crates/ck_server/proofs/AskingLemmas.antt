@@ -3,72 +3,74 @@ use Rattle.std.proofs.Common.{◌≡◌, ℕ, ◌≤◌, List, [], ◌∷◌, �
 use Rattle.std.specs.Prelude.{◌⊎◌}
 use Rattle.std.specs.List.{AllByRecursion}
 use Rattle.zone_model.specs.declared.events.Event.{Event}
-use Rattle.zone_model.specs.Histories.{Histories, Grows}
+use Rattle.zone_model.specs.Histories.{Histories}
 use Rattle.board_model.specs.declared.answers.Answer.{Answer}
 use Rattle.board_model.specs.declared.answers.Answered.{Answered}
-use Rattle.board_model.specs.Asks.{sight, answer}
-use Rattle.board_model.specs.Turns.{BoardState, AreLegal, IsAsked, MayHaveAsked}
+use Rattle.board_model.specs.Turns.{BoardState, AreLegal, HadTurn, IsAsked}
 use Rattle.wire_calls.specs.declared.reply.Reply.{Reply}
 use Rattle.talk_model.specs.declared.marks.At.{At}
 use Rattle.talk_model.specs.Calls.{Ask, Step, asks, replies}
-use Rattle.talk_model.specs.Marks.{SeatsStay, answer_at, step_at, IsAtOf, AreAtsOf, NotBefore, AreInOrder, OwnAreMarked, TurnsAreMarked}
-use Rattle.talk_model.specs.Alone.{answer_alone, after_ask, after_asks, after_step, reply_alone}
-use Rattle.talk_model.proofs.GrowthLemmas.{grows_on, grows_same, front-length, at-grown, answer-grown}
+use Rattle.talk_model.specs.Marks.{IsLater, answer_at, step_at, IsAtOf, AreAtsOf, NotBefore, AreInOrder, OwnAreMarked, TurnsAreMarked}
+use Rattle.talk_model.specs.Alone.{Storing, WentSo, answer_alone, after_ask, after_asks, after_step, reply_alone}
+use Rattle.talk_model.proofs.GrowthLemmas.{later_same, later_on, front-length, at-grown, answer-grown}
 use Rattle.talk_model.proofs.MarkLemmas.{all-map, all-snoc, order-snoc}
 use Rattle.talk_model.proofs.AloneLemmas.{ask_leaves}
-use Rattle.talk_model.proofs.TurnLemmas.{turn_front, turn_stays, base-asked, is_at, not_before, own_more, turns_more, lone_leaves, lone_adds}
+use Rattle.talk_model.proofs.TurnLemmas.{turn_later, answer-asked, is_at, not_before, own_more, turns_more, lone_adds, lone_answers}
 use Rattle.ck_server.specs.Conversations.{IsLone}
 use Rattle.ck_server.specs.Outcomes.{MayBeAsking}
 use Rattle.ck_server.specs.Answering.{at_of, AsksOn}
 
 -- what a board that was perhaps asked leaves
 pub record MayGrow (found now : BoardState) : Type 0 where
-  pub grown : Grows found.histories now.histories
-  pub stays : SeatsStay found.seats now.seats
-  pub still : now.alone ≡ found.alone
+  pub later : IsLater found now
   pub legal : AreLegal found.histories → AreLegal now.histories
 
 pub same_grows : (found now : BoardState) → found ≡ now → MayGrow found now
-same_grows found now same = subst (MayGrow found) same (record { grown = grows_same found.histories; stays = λ lock n e. e; still = refl; legal = λ l. l })
+same_grows found now same = subst (MayGrow found) same (record { later = later_same found; legal = λ l. l })
 
-pub may_grow : (found now : BoardState) (ask : Ask) → MayBeAsking found now ask → MayGrow found now
-may_grow found now ask (inl same) = same_grows found now same
-may_grow found now ask (inr m) =
-    record { grown = turn_front found now ask.lock m.turn; stays = turn_stays found now ask.lock m.turn; still = (m.turn).still; legal = λ l. (m.turn).legal }
+turn_grows : (found now : BoardState) (lock : ℕ) → HadTurn found now lock → MayGrow found now
+turn_grows found now lock t = record { later = turn_later found now lock t; legal = λ l. t.legal }
+
+pub may_grow : (found now : BoardState) (todo : Step) → MayBeAsking found now todo → MayGrow found now
+may_grow found now (replies r) same = same_grows found now same
+may_grow found now (asks ask next) (inl same) = same_grows found now same
+may_grow found now (asks ask next) (inr (inl seen)) = turn_grows found now ask.lock seen.turn
+may_grow found now (asks ask next) (inr (inr had)) = turn_grows found now ask.lock (had.turn)
 
 module _ (entry : BoardState) where
   -- what is known of a board between two asks
   pub record Found (b : BoardState) (ats : List At) : Type 0 where
-    pub grown : Grows entry.histories b.histories
+    pub later : IsLater entry b
     pub within : AllByRecursion (λ (at : At). at.len ≤ length (b.histories at.lock)) ats
     pub ordered : AreInOrder ats
-    pub own : OwnAreMarked b.seats entry.histories b.histories ats
-    pub turns : TurnsAreMarked entry.turns b.turns ats
+    pub own : OwnAreMarked entry b ats
+    pub turns : TurnsAreMarked entry b ats
 
   -- behind one ask more
   found_on : (b b2 : BoardState) (a : Ask) (answered : Answered) (k : IsAsked b b2 a.lock a.part answered) (ats : List At) → Found b ats → Found b2 (ats ++ at_of a answered ∷ [])
   found_on b b2 a answered k ats f =
-      let front : Grows b.histories b2.histories = turn_front b b2 a.lock k.turn in
+      let on : IsLater b b2 = turn_later b b2 a.lock (k.had).turn in
       let still_within : AllByRecursion (λ (at : At). at.len ≤ length (b2.histories at.lock)) ats =
       all-map (λ (at : At). at.len ≤ length (b.histories at.lock)) (λ (at : At). at.len ≤ length (b2.histories at.lock))
-      (λ (at : At) (le : at.len ≤ length (b.histories at.lock)). omega (arith, le, front-length (b.histories at.lock) (b2.histories at.lock) (front at.lock))) ats f.within in
+      (λ (at : At) (le : at.len ≤ length (b.histories at.lock)). omega (arith, le, front-length (b.histories at.lock) (b2.histories at.lock) (on.grown at.lock))) ats f.within in
       record {
-        grown = grows_on entry.histories b.histories b2.histories f.grown front;
+        later = later_on entry b b2 f.later on;
         within = all-snoc (λ (at : At). at.len ≤ length (b2.histories at.lock)) ats (at_of a answered) still_within (omega (arith, k.len));
         ordered = order-snoc ats (at_of a answered) f.ordered
             (all-map (λ (at : At). at.len ≤ length (b.histories at.lock)) (λ (at : At). NotBefore at (at_of a answered)) (not_before b b2 a.lock a.part answered k) ats f.within);
-        own = own_more b b2 a.lock a.part answered k entry.histories ats f.grown f.within f.own;
-        turns = turns_more b b2 a.lock a.part answered k entry.turns ats f.turns;
+        own = own_more b b2 a.lock a.part answered k entry ats f.later f.within f.own;
+        turns = turns_more b b2 a.lock a.part answered k entry ats f.turns;
       }
 
   -- what asks of a step leave
   pub record Chained (b b2 : BoardState) (before ats : List At) (step todo : Step) : Type 0 where
     pub grows : MayGrow b b2
     pub found : Found b2 (before ++ ats)
-    pub asks_are : AreAtsOf b2.seats entry.histories b2.histories ats step
+    pub asks_are : AreAtsOf entry b2 ats step
     pub todo_is : step_at b2.histories ats step ≡ todo
-    pub run : IsLone b → (lock : ℕ) → b2.histories lock ≡ after_asks (length ats) b.histories step lock
-    pub run_all : IsLone b → (r : Reply) → todo ≡ replies r → (reply_alone step b.histories ≡ r) × ((lock : ℕ) → b2.histories lock ≡ after_step step b.histories lock)
+    pub run : IsLone b → (storing : Storing) → WentSo storing b2.histories → (lock : ℕ) → b2.histories lock ≡ after_asks storing (length ats) b.histories step lock
+    pub run_all : IsLone b → (storing : Storing) → WentSo storing b2.histories → (r : Reply) → todo ≡ replies r
+        → (reply_alone storing step b.histories ≡ r) × ((lock : ℕ) → b2.histories lock ≡ after_step storing step b.histories lock)
 
   none_chained : (b : BoardState) (before : List At) (step : Step) → Found b before → Chained b b before [] step step
   none_chained b before step f = record {
@@ -76,8 +78,8 @@ module _ (entry : BoardState) where
     found = subst (Found b) (sym (append-nil before)) f;
     asks_are = tt;
     todo_is = refl;
-    run = λ lone lock. refl;
-    run_all = λ lone r is. (ap (λ s. reply_alone s b.histories) is, λ lock. ap (λ s. after_step s b.histories lock) (sym is));
+    run = λ lone storing went lock. refl;
+    run_all = λ lone storing went r is. (ap (λ s. reply_alone storing s b.histories) is, λ lock. ap (λ s. after_step storing s b.histories lock) (sym is));
   }
 
   -- one ask, and then those behind it
@@ -86,41 +88,42 @@ module _ (entry : BoardState) where
     abbrev at : At
     at = at_of a answered
 
-    one_at : IsAtOf mid.seats entry.histories mid.histories at a
-    one_at = is_at b mid a.lock a.part answered k entry.histories f.grown
+    abbrev turn : HadTurn b mid a.lock
+    turn = (k.had).turn
+
+    abbrev on : IsLater mid b2
+    on = (c.grows).later
+
+    one_at : IsAtOf entry mid at a
+    one_at = is_at b mid a.lock a.part answered k entry f.later
 
     answer_is : answer_at b2.histories at a ≡ answered.answer
-    answer_is =
-        answer-grown mid.seats b2.seats entry.histories mid.histories b2.histories (c.grows).grown (c.grows).stays at a one_at.within
-        ∙ (ap (λ (base : List Event). answer a.lock (sight a.lock base a.part) a.part) (base-asked b mid a.lock a.part answered k) ∙ sym k.answer_is)
+    answer_is = answer-grown entry mid b2 on at a one_at.within ∙ answer-asked b mid a.lock a.part answered k
 
     lone_on : IsLone b → IsLone mid
-    lone_on lone = ((k.turn).still ∙ lone.0, λ lock. turn_stays b mid a.lock k.turn lock 0 (lone.1 lock))
+    lone_on lone = (turn.still ∙ lone.0, λ lock. (turn_later b mid a.lock turn).stays lock 0 (lone.1 lock))
 
-    answered_alone : IsLone b → answered.answer ≡ answer_alone b.histories a
-    answered_alone lone = k.answer_is ∙ ap (λ (base : List Event). answer a.lock (sight a.lock base a.part) a.part) (lone_leaves b mid a.lock a.part answered k lone.0)
+    module _ (lone : IsLone b) (storing : Storing) (went : WentSo storing b2.histories) where
+      answered_alone : answered.answer ≡ answer_alone storing b.histories a
+      answered_alone = lone_answers b mid a.lock a.part answered k lone.0 (lone.1 a.lock) b2.histories (on.grown a.lock) storing went
 
-    mid_is : IsLone b → mid.histories ≡ after_ask b.histories a
-    mid_is lone = λ i lock. ask_leaves b.histories mid.histories a (lone_adds b mid a.lock a.part answered k 0 lone.0 (lone.1 a.lock)) (λ other ne. ((k.turn).others other ne).history) lock i
+      mid_is : mid.histories ≡ after_ask storing b.histories a
+      mid_is = λ i lock. ask_leaves storing b.histories mid.histories a (lone_adds b mid a.lock a.part answered k lone.0 (lone.1 a.lock) b2.histories (on.grown a.lock) storing went)
+          (λ other ne. (turn.others other ne).history) lock i
 
     one_chained : Chained b b2 before (at ∷ ats) (asks a next) todo
     one_chained = record {
-      grows = record {
-        grown = grows_on b.histories mid.histories b2.histories (turn_front b mid a.lock k.turn) (c.grows).grown;
-        stays = λ lock n e. (c.grows).stays lock n (turn_stays b mid a.lock k.turn lock n e);
-        still = (c.grows).still ∙ (k.turn).still;
-        legal = λ l. (c.grows).legal (k.turn).legal;
-      };
+      grows = record { later = later_on b mid b2 (turn_later b mid a.lock turn) on; legal = λ l. (c.grows).legal turn.legal };
       found = subst (Found b2) (append_assoc before (at ∷ []) ats) c.found;
-      asks_are = (
-        at-grown mid.seats b2.seats entry.histories mid.histories b2.histories (c.grows).grown (c.grows).stays at a one_at,
-        subst (λ (x : Answer). AreAtsOf b2.seats entry.histories b2.histories ats (next x)) (sym answer_is) c.asks_are,
-      );
+      asks_are = (at-grown entry mid b2 on at a one_at, subst (λ (x : Answer). AreAtsOf entry b2 ats (next x)) (sym answer_is) c.asks_are);
       todo_is = ap (λ (x : Answer). step_at b2.histories ats (next x)) answer_is ∙ c.todo_is;
-      run = λ lone lock. c.run (lone_on lone) lock ∙ (λ i. after_asks (length ats) (mid_is lone i) (next (answered_alone lone i)) lock);
-      run_all = λ lone r is.
-          let d = c.run_all (lone_on lone) r is in
-          ((λ i. reply_alone (next (sym (answered_alone lone) i)) (sym (mid_is lone) i)) ∙ d.0, λ lock. d.1 lock ∙ (λ i. after_step (next (answered_alone lone i)) (mid_is lone i) lock));
+      run = λ lone storing went lock.
+          c.run (lone_on lone) storing went lock ∙ (λ i. after_asks storing (length ats) (mid_is lone storing went i) (next (answered_alone lone storing went i)) lock);
+      run_all = λ lone storing went r is.
+          let d = c.run_all (lone_on lone) storing went r is in
+          let same = answered_alone lone storing went in
+          let from = mid_is lone storing went in
+          ((λ i. reply_alone storing (next (sym same i)) (sym from i)) ∙ d.0, λ lock. d.1 lock ∙ (λ i. after_step storing (next (same i)) (from i) lock));
     }
 
   pub chain : (ats : List At) (step todo : Step) (b b2 : BoardState) (before : List At) → Found b before → AsksOn b b2 ats step todo → Chained b b2 before ats step todo

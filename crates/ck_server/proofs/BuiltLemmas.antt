@@ -7,7 +7,7 @@ use Rattle.record_model.specs.declared.value.RefTo.{RefTo}
 use Rattle.record_model.specs.declared.value.Value.{Value, out-Value}
 use Rattle.record_model.specs.declared.value.Value.TheOpen.{Value-F}
 use Rattle.record_model.specs.ValueOrder.{elements_part}
-use Rattle.zone_model.specs.PlainCreates.{only_names, has_plain_references}
+use Rattle.plain_creates.specs.PlainCreates.{only_names, has_plain_references}
 use Rattle.zone_model.specs.References.{single_references, level_references}
 
 -- all of what each of a list has pass

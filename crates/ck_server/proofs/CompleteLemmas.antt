@@ -59,7 +59,7 @@ answers_all t gave entry now marks end k bytes rs left whole =
     let sent : c.sent ≡ talk c.wanted marks h =
     sym (append-nil c.sent) ∙ (sym c.text ∙ (ap (λ (l : List ℕ). talk c.wanted marks h ++ l) nothing ∙ append-nil (talk c.wanted marks h))) in
     record {
-      marked = subst (λ (ws : List Meaning). AreMarksOf (now.board).seats 0 (entry.board).histories h marks ws) one.0 c.marked;
+      marked = subst (λ (ws : List Meaning). AreMarksOf 0 entry.board now.board marks ws) one.0 c.marked;
       written = subst (λ (text : List ℕ). Appends entry.held now.held text) (sent ∙ ap (λ (ws : List Meaning). talk ws marks h) one.0) c.appended;
       end_is = one.1;
     }

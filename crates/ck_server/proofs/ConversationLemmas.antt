@@ -1,12 +1,13 @@
 -- A conversation goes on by one request, or by what was read.
-use Rattle.std.proofs.Common.{◌≡◌, ℕ, ◌<◌, ◌≤◌, List, [], ◌∷◌, ◌++◌, length, Bool, true, false, inl, inr, refl, sym, ap, subst, ◌∙◌, arith, append_assoc, append-nil, length-append, Option}
+use Rattle.std.proofs.Common.{◌≡◌, ℕ, ◌<◌, ◌≤◌, List, [], ◌∷◌, ◌++◌, length, drop, Bool, true, false, inl, inr, refl, sym, ap, subst, ◌∙◌, arith, append_assoc, append-nil, length-append, Option}
 use Rattle.std.specs.Prelude.{◌⊎◌}
-use Rattle.std.proofs.lemmas.List.{length-map}
+use Rattle.std.proofs.lemmas.List.{length-map, length-drop, drop-append-le}
 use Rattle.std.specs.List.{AllByRecursion, AllZip, concat}
 use Rattle.std.specs.Io.KnownBytes.{Consumes, Appends}
 use Rattle.zone_model.specs.declared.events.Event.{Event}
-use Rattle.zone_model.specs.Histories.{Histories, Grows}
-use Rattle.board_model.specs.declared.answers.Answer.{Answer}
+use Rattle.zone_model.specs.declared.events.Event.TheVariants.{Made, StoreFailed}
+use Rattle.board_model.specs.Asks.{append_in}
+use Rattle.zone_model.specs.Histories.{Histories, IsFront, Grows}
 use Rattle.board_model.specs.Turns.{BoardState, AreLegal}
 use Rattle.http_front.specs.Users.{Table}
 use Rattle.http_front.specs.Reading.{most_piece, ReadsOn}
@@ -15,16 +16,16 @@ use Rattle.talk_model.specs.declared.marks.At.{At}
 use Rattle.talk_model.specs.declared.marks.Mark.{Mark}
 use Rattle.talk_model.specs.Requests.{Meaning, Wants}
 use Rattle.talk_model.specs.Given.{Given, given_of, givens_of, AreWordsFor}
-use Rattle.talk_model.specs.Calls.{Ask, Step, asks, replies, step_for, text_of, text_at, IsReply}
+use Rattle.talk_model.specs.Calls.{Step, replies, step_for, text_of, text_at, IsReply}
 use Rattle.talk_model.specs.Connections.{most_requests, GoOn, AreOpen, AreClosing}
-use Rattle.talk_model.specs.Marks.{step_behind, IsMarkOf, AreMarksOf, AreInOrder, OwnAreMarked, TurnsAreMarked, asks_in}
+use Rattle.talk_model.specs.Marks.{IsLater, step_behind, IsMarkOf, AreMarksOf, AreInOrder, OwnAreMarked, TurnsAreMarked, asks_in}
 use Rattle.talk_model.specs.Talk.{reply_at, talk}
-use Rattle.talk_model.specs.Alone.{after_asks, after_step, reply_alone, after_all, text_alone, alone_text}
-use Rattle.talk_model.proofs.GrowthLemmas.{grows_on, grows_same, mark-grown, behind-grown, marks-grown, talk-grown}
+use Rattle.talk_model.specs.Alone.{Storing, WentSo, after_asks, after_step, reply_alone, after_all, text_alone, alone_text}
+use Rattle.talk_model.proofs.GrowthLemmas.{front-length, later_same, later_on, mark-grown, behind-grown, marks-grown, talk-grown}
 use Rattle.talk_model.proofs.MarkLemmas.{all-snoc, zip-snoc, concat-snoc, asks_in-snoc, givens_of-snoc, marks-snoc, talk-snoc, marks-length, marks-within}
 use Rattle.talk_model.proofs.AloneLemmas.{after_all-snoc, alone_text-snoc}
 use Rattle.ck_devices.proofs.Streams.{consumes-nil, appends-nil, consumes_on, appends_on}
-use Rattle.ck_server.specs.Conversations.{Standing, IsLone, Conversed, AreSettled, IsOfReply}
+use Rattle.ck_server.specs.Conversations.{Standing, IsLone, OfLone, Conversed, AreSettled, IsOfReply}
 use Rattle.ck_server.specs.Outcomes.{IsInFront, MayBeAsking, WasAsking}
 use Rattle.ck_server.specs.Answering.{Place, AsksOn, Replies}
 use Rattle.ck_server.proofs.AheadLemmas.{piece_of_little, piece_on}
@@ -41,15 +42,13 @@ conversed-start t entry legal = record {
   closing = inl tt;
   consumed = consumes-nil entry.left;
   ahead = piece_of_little [] (omega arith);
-  grown = grows_same (entry.board).histories;
-  stay = λ lock n e. e;
-  still = refl;
+  board = later_same entry.board;
   legal = legal;
   marked = tt;
   ordered = tt;
   text = refl;
   appended = appends-nil entry.held;
-  said = λ lone. refl;
+  said = λ lone storing went. refl;
 }
 
 -- the same with other bytes left
@@ -70,9 +69,7 @@ conversed_took t entry now left faults marks old new last unsent c little read =
       subst (λ (bytes : List ℕ). Consumes entry.left left bytes) (append_assoc (concat c.requests) old read.taken ∙ ap (λ bytes. concat c.requests ++ bytes) (sym read.grown))
       (consumes_on entry.left now.left left (concat c.requests ++ old) read.taken c.consumed read.consumed);
   ahead = piece_on now.left left old new little read;
-  grown = c.grown;
-  stay = c.stay;
-  still = c.still;
+  board = c.board;
   legal = c.legal;
   marked = c.marked;
   ordered = c.ordered;
@@ -97,9 +94,7 @@ conversed_sent t entry now held faults marks rest last sent unsent c parts appen
   closing = c.closing;
   consumed = c.consumed;
   ahead = c.ahead;
-  grown = c.grown;
-  stay = c.stay;
-  still = c.still;
+  board = c.board;
   legal = c.legal;
   marked = c.marked;
   ordered = c.ordered;
@@ -110,11 +105,24 @@ conversed_sent t entry now held faults marks rest last sent unsent c parts appen
   said = c.said;
 }
 
+-- the appends went so before too
+pub went_before : (storing : Storing) (b b2 : BoardState) → IsLater b b2 → WentSo storing b2.histories → WentSo storing b.histories
+went_before storing b b2 later went lock number within =
+    let on = later.grown lock in
+    went lock number (omega (arith, within, front-length (b.histories lock) (b2.histories lock) on))
+    ∙ ap append_in (ap (drop number) on.grown ∙ drop-append-le number (b.histories lock) on.more (omega (arith, within)))
+    ∙ first_of (drop number (b.histories lock)) on.more (omega (arith, within, length-drop number (b.histories lock)))
+  where
+    first_of : (xs more : List Event) → 0 < length xs → append_in (xs ++ more) ≡ append_in xs
+    first_of [] more some = absurd (omega (arith, some))
+    first_of (Made origin commits ∷ xs) more some = refl
+    first_of (StoreFailed origin from to ∷ xs) more some = refl
+
 -- the board may have been asked, and nothing was written
 abbrev pub conversed_grown : (t : Table) (entry now later : Standing) (marks : List Mark) (rest : List ℕ) → (c : Conversed t entry now marks rest [] []) → MayGrow now.board later.board → later.left ≡ now.left → Appends now.held later.held []
     → Conversed t entry later marks rest [] []
 conversed_grown t entry now later marks rest c g same_left kept =
-    let same = talk-grown (now.board).seats (later.board).seats (entry.board).histories (now.board).histories (later.board).histories g.grown g.stays 0 marks c.wanted c.marked in
+    let same = talk-grown entry.board now.board later.board g.later 0 marks c.wanted c.marked in
     record {
       requests = c.requests;
       wanted = c.wanted;
@@ -124,15 +132,13 @@ conversed_grown t entry now later marks rest c g same_left kept =
       closing = c.closing;
       consumed = subst (λ (l : Option (List ℕ)). Consumes entry.left l (concat c.requests ++ rest)) (sym same_left) c.consumed;
       ahead = c.ahead;
-      grown = grows_on (entry.board).histories (now.board).histories (later.board).histories c.grown g.grown;
-      stay = λ lock n e. g.stays lock n (c.stay lock n e);
-      still = g.still ∙ c.still;
+      board = later_on entry.board now.board later.board c.board g.later;
       legal = g.legal c.legal;
-      marked = marks-grown (now.board).seats (later.board).seats (entry.board).histories (now.board).histories (later.board).histories g.grown g.stays 0 marks c.wanted c.marked;
+      marked = marks-grown entry.board now.board later.board g.later 0 marks c.wanted c.marked;
       ordered = c.ordered;
       text = ap (λ (l : List ℕ). l ++ []) same ∙ c.text;
       appended = subst (λ (bytes : List ℕ). Appends entry.held later.held bytes) (append-nil c.sent) (appends_on entry.held now.held later.held c.sent [] c.appended kept);
-      said = λ lone. same ∙ c.said lone;
+      said = λ lone storing went. same ∙ c.said lone storing (went_before storing now.board later.board g.later went);
     }
 
 -- one request more, which asks to close or not
@@ -148,57 +154,51 @@ module _ (t : Table) (entry now : Standing) (old : List Mark) (buffer : List ℕ
   nh = (now.board).histories
 
   found : Found entry.board now.board (asks_in old)
-  found = record { grown = c.grown; within = marks-within (now.board).seats eh nh 0 old c.wanted c.marked; ordered = c.ordered; own = settled.own; turns = settled.turns }
+  found = record { later = c.board; within = marks-within entry.board now.board 0 old c.wanted c.marked; ordered = c.ordered; own = settled.own; turns = settled.turns }
 
-  abbrev run : Histories Event
-  run = after_all eh c.wanted (givens_of old)
-
-  histories_are : IsLone entry.board → nh ≡ run
-  histories_are lone = λ i lock. settled.left_behind lone lock i
+  abbrev run : Storing → Histories Event
+  run storing = after_all storing eh c.wanted (givens_of old)
 
   lone_now : IsLone entry.board → IsLone now.board
-  lone_now lone = (c.still ∙ lone.0, λ lock. c.stay lock 0 (lone.1 lock))
+  lone_now lone = ((c.board).still ∙ lone.0, λ lock. (c.board).stays lock 0 (lone.1 lock))
+
+  histories_are : (b : BoardState) → IsLater now.board b → IsLone entry.board → (storing : Storing) → WentSo storing b.histories → nh ≡ run storing
+  histories_are b later lone storing went = λ i lock. settled.left_behind lone storing (went_before storing now.board b later went) lock i
 
   module _ (w : Meaning) (m : Mark) (request : m.request ≡ number) (words : AreWordsFor w.want (given_of m)) where
     abbrev step : Step
     step = step_for w.want (given_of m)
 
     -- a request whose asks were whole up to the next one
-    module _ (later : Standing) (rest : List ℕ) (front : IsInFront t c.wanted rest w) (reached : BoardState) (ask : Ask) (next : Answer → Step)
-        (on : AsksOn now.board reached m.asks.items step (asks ask next)) (may : MayBeAsking reached later.board ask) where
-      abbrev reaching : Chained entry.board now.board reached (asks_in old) m.asks.items step (asks ask next)
-      reaching = chain entry.board m.asks.items step (asks ask next) now.board reached (asks_in old) found on
+    module _ (later : Standing) (rest : List ℕ) (front : IsInFront t c.wanted rest w) (reached : BoardState) (todo : Step)
+        (on : AsksOn now.board reached m.asks.items step todo) (may : MayBeAsking reached later.board todo) where
+      abbrev reaching : Chained entry.board now.board reached (asks_in old) m.asks.items step todo
+      reaching = chain entry.board m.asks.items step todo now.board reached (asks_in old) found on
 
       since : MayGrow reached later.board
-      since = may_grow reached later.board ask may
+      since = may_grow reached later.board todo may
 
-      mark_there : IsMarkOf reached.seats number eh reached.histories m w
+      mark_there : IsMarkOf number entry.board reached m w
       mark_there = record { request = request; words = words; asks = reaching.asks_are }
 
       pub grows_since : MayGrow now.board later.board
-      grows_since = record {
-        grown = grows_on nh reached.histories (later.board).histories (reaching.grows).grown since.grown;
-        stays = λ lock n e. since.stays lock n ((reaching.grows).stays lock n e);
-        still = since.still ∙ (reaching.grows).still;
-        legal = λ l. since.legal ((reaching.grows).legal l);
-      }
+      grows_since = record { later = later_on now.board reached later.board (reaching.grows).later since.later; legal = λ l. since.legal ((reaching.grows).legal l) }
 
       pub was_asking : WasAsking t entry later c.wanted old rest m
       was_asking = record {
         wanted = w;
         front = front;
-        marked = subst (λ (n : ℕ). IsMarkOf (later.board).seats n eh (later.board).histories m w) count (mark-grown reached.seats (later.board).seats eh reached.histories (later.board).histories since.grown since.stays number m w mark_there);
+        marked = subst (λ (n : ℕ). IsMarkOf n entry.board later.board m w) count (mark-grown entry.board reached later.board since.later number m w mark_there);
         ordered = subst AreInOrder (sym (asks_in-snoc old m)) (reaching.found).ordered;
         found = reached;
+        later = later_on entry.board now.board reached c.board (reaching.grows).later;
         settled = record {
-          own = subst (OwnAreMarked reached.seats eh reached.histories) (sym (asks_in-snoc old m)) (reaching.found).own;
-          turns = subst (TurnsAreMarked (entry.board).turns reached.turns) (sym (asks_in-snoc old m)) (reaching.found).turns;
-          left_behind = λ lone lock. reaching.run (lone_now lone) lock ∙ (λ i. after_asks (length m.asks.items) (histories_are lone i) step lock);
+          own = subst (OwnAreMarked entry.board reached) (sym (asks_in-snoc old m)) (reaching.found).own;
+          turns = subst (TurnsAreMarked entry.board reached) (sym (asks_in-snoc old m)) (reaching.found).turns;
+          left_behind = λ lone storing went lock.
+              reaching.run (lone_now lone) storing went lock ∙ (λ i. after_asks storing (length m.asks.items) (histories_are reached (reaching.grows).later lone storing went i) step lock);
         };
-        ask = ask;
-        next = next;
-        next_is = behind-grown reached.seats (later.board).seats eh reached.histories (later.board).histories since.grown since.stays number m w mark_there ∙ reaching.todo_is;
-        may = may;
+        may = subst (MayBeAsking reached later.board) (sym (behind-grown entry.board reached later.board since.later number m w mark_there ∙ reaching.todo_is)) may;
       }
 
     -- a request whose asks were whole
@@ -206,23 +206,23 @@ module _ (t : Table) (entry now : Standing) (old : List Mark) (buffer : List ℕ
       abbrev lh : Histories Event
       lh = (later.board).histories
 
-      abbrev ls : ℕ → Option ℕ
-      ls = (later.board).seats
-
       abbrev chained : Chained entry.board now.board later.board (asks_in old) m.asks.items step (replies reply)
       chained = chain entry.board m.asks.items step (replies reply) now.board later.board (asks_in old) found on
 
-      mark_is : IsMarkOf ls number eh lh m w
+      abbrev since_now : IsLater now.board later.board
+      since_now = (chained.grows).later
+
+      mark_is : IsMarkOf number entry.board later.board m w
       mark_is = record { request = request; words = words; asks = chained.asks_are }
 
       whole : IsReply (step_behind lh m w)
       whole = subst IsReply (sym chained.todo_is) tt
 
-      marked_before : AreMarksOf ls 0 eh lh old c.wanted
-      marked_before = marks-grown (now.board).seats ls eh nh lh (chained.grows).grown (chained.grows).stays 0 old c.wanted c.marked
+      marked_before : AreMarksOf 0 entry.board later.board old c.wanted
+      marked_before = marks-grown entry.board now.board later.board since_now 0 old c.wanted c.marked
 
       talk_before : talk c.wanted old lh ≡ talk c.wanted old nh
-      talk_before = talk-grown (now.board).seats ls eh nh lh (chained.grows).grown (chained.grows).stays 0 old c.wanted c.marked
+      talk_before = talk-grown entry.board now.board later.board since_now 0 old c.wanted c.marked
 
       abbrev text : List ℕ
       text = text_of w.close reply
@@ -231,26 +231,30 @@ module _ (t : Table) (entry now : Standing) (old : List Mark) (buffer : List ℕ
       reply_is = ap (text_at w.close) chained.todo_is
 
       talk_now : talk (c.wanted ++ w ∷ []) (old ++ m ∷ []) lh ≡ talk c.wanted old nh ++ text
-      talk_now = talk-snoc ls eh lh 0 old c.wanted m w marked_before ∙ (λ i. talk_before i ++ reply_is i)
+      talk_now = talk-snoc entry.board later.board 0 old c.wanted m w marked_before ∙ (λ i. talk_before i ++ reply_is i)
 
       as_many : length c.wanted ≡ length (givens_of old)
-      as_many = sym (length-map old given_of ∙ marks-length (now.board).seats eh nh 0 old c.wanted c.marked)
+      as_many = sym (length-map old given_of ∙ marks-length entry.board now.board 0 old c.wanted c.marked)
 
-      run_text : IsLone entry.board → text_alone run w (given_of m) ≡ text
-      run_text lone = (λ i. text_of w.close (reply_alone step (sym (histories_are lone) i))) ∙ ap (text_of w.close) (chained.run_all (lone_now lone) reply refl).0
+      module _ (lone : IsLone entry.board) (storing : Storing) (went : WentSo storing lh) where
+        from_run : nh ≡ run storing
+        from_run = histories_are later.board since_now lone storing went
 
-      said_now : IsLone entry.board → talk (c.wanted ++ w ∷ []) (old ++ m ∷ []) lh ≡ alone_text eh (c.wanted ++ w ∷ []) (givens_of (old ++ m ∷ []))
-      said_now lone =
-          let run_all : alone_text eh (c.wanted ++ w ∷ []) (givens_of (old ++ m ∷ [])) ≡ talk c.wanted old nh ++ text =
-          ap (alone_text eh (c.wanted ++ w ∷ [])) (givens_of-snoc old m)
-          ∙ (alone_text-snoc eh c.wanted (givens_of old) w (given_of m) as_many ∙ (λ i. sym (c.said lone) i ++ run_text lone i)) in
-          talk_now ∙ sym run_all
+        run_text : text_alone storing (run storing) w (given_of m) ≡ text
+        run_text = (λ i. text_of w.close (reply_alone storing step (sym from_run i))) ∙ ap (text_of w.close) (chained.run_all (lone_now lone) storing went reply refl).0
 
-      left_behind_now : IsLone entry.board → (lock : ℕ) → lh lock ≡ after_all eh (c.wanted ++ w ∷ []) (givens_of (old ++ m ∷ [])) lock
-      left_behind_now lone lock =
-          let run_now : after_all eh (c.wanted ++ w ∷ []) (givens_of (old ++ m ∷ [])) ≡ after_step step run =
-          ap (after_all eh (c.wanted ++ w ∷ [])) (givens_of-snoc old m) ∙ after_all-snoc eh c.wanted (givens_of old) w (given_of m) as_many in
-          (chained.run_all (lone_now lone) reply refl).1 lock ∙ ((λ i. after_step step (histories_are lone i) lock) ∙ ap (λ (g : Histories Event). g lock) (sym run_now))
+        said_now : talk (c.wanted ++ w ∷ []) (old ++ m ∷ []) lh ≡ alone_text storing eh (c.wanted ++ w ∷ []) (givens_of (old ++ m ∷ []))
+        said_now =
+            let run_all : alone_text storing eh (c.wanted ++ w ∷ []) (givens_of (old ++ m ∷ [])) ≡ talk c.wanted old nh ++ text =
+            ap (alone_text storing eh (c.wanted ++ w ∷ [])) (givens_of-snoc old m)
+            ∙ (alone_text-snoc storing eh c.wanted (givens_of old) w (given_of m) as_many ∙ (λ i. sym (c.said lone storing (went_before storing now.board later.board since_now went)) i ++ run_text i)) in
+            talk_now ∙ sym run_all
+
+        left_behind_now : (lock : ℕ) → lh lock ≡ after_all storing eh (c.wanted ++ w ∷ []) (givens_of (old ++ m ∷ [])) lock
+        left_behind_now lock =
+            let run_now : after_all storing eh (c.wanted ++ w ∷ []) (givens_of (old ++ m ∷ [])) ≡ after_step storing step (run storing) =
+            ap (after_all storing eh (c.wanted ++ w ∷ [])) (givens_of-snoc old m) ∙ after_all-snoc storing eh c.wanted (givens_of old) w (given_of m) as_many in
+            (chained.run_all (lone_now lone) storing went reply refl).1 lock ∙ ((λ i. after_step storing step (from_run i) lock) ∙ ap (λ (g : Histories Event). g lock) (sym run_now))
 
       talk_all : talk c.wanted old nh ≡ c.sent
       talk_all = sym (append-nil (talk c.wanted old nh)) ∙ (c.text ∙ append-nil c.sent)
@@ -273,11 +277,9 @@ module _ (t : Table) (entry now : Standing) (old : List Mark) (buffer : List ℕ
               ∙ (sym (append_assoc (concat c.requests) bytes buffer2) ∙ ap (λ b. b ++ buffer2) (sym (concat-snoc c.requests bytes)))) in
               subst (λ b. Consumes entry.left later.left b) bytes_are (consumes_on entry.left now.left later.left _ _ c.consumed consumed);
           ahead = piece_of_little buffer2 little;
-          grown = grows_on eh nh lh c.grown (chained.grows).grown;
-          stay = λ lock n e. (chained.grows).stays lock n (c.stay lock n e);
-          still = (chained.grows).still ∙ c.still;
+          board = later_on entry.board now.board later.board c.board since_now;
           legal = (chained.grows).legal c.legal;
-          marked = marks-snoc ls eh lh 0 number old c.wanted m w (omega (arith, count)) marked_before mark_is whole;
+          marked = marks-snoc entry.board later.board 0 number old c.wanted m w (omega (arith, count)) marked_before mark_is whole;
           ordered = subst AreInOrder (sym (asks_in-snoc old m)) (chained.found).ordered;
           text =
               append-nil (talk (c.wanted ++ w ∷ []) (old ++ m ∷ []) lh) ∙ (talk_now ∙ ((λ i. talk_all i ++ text_is i) ∙ sym (append_assoc c.sent sent unsent)));
@@ -286,8 +288,8 @@ module _ (t : Table) (entry now : Standing) (old : List Mark) (buffer : List ℕ
         },
         refl,
         record {
-          own = subst (OwnAreMarked ls eh lh) (sym (asks_in-snoc old m)) (chained.found).own;
-          turns = subst (TurnsAreMarked (entry.board).turns (later.board).turns) (sym (asks_in-snoc old m)) (chained.found).turns;
+          own = subst (OwnAreMarked entry.board later.board) (sym (asks_in-snoc old m)) (chained.found).own;
+          turns = subst (TurnsAreMarked entry.board later.board) (sym (asks_in-snoc old m)) (chained.found).turns;
           left_behind = left_behind_now;
         },
         record {
@@ -298,7 +300,7 @@ module _ (t : Table) (entry now : Standing) (old : List Mark) (buffer : List ℕ
           requests_are = refl;
           marks_are = refl;
           ends = (sent, reply_is ∙ text_is);
-          said = λ lone. (sent, run_text lone ∙ text_is);
+          said = λ lone storing went. (sent, run_text lone storing went ∙ text_is);
         },
       )
 

@@ -28,7 +28,7 @@ next_of asking a = replies (reply_from asking.part asking.options a)
 -- the ask was in hand
 pub was_asking : (before after : BoardState) (asking : Asking) (ats : List At) → ats ≡ [] → MayHaveAsked before after asking.lock asking.part → StopsAsking before after ats (step_from asking)
 was_asking before after asking ats none may =
-    subst (λ (l : List At). StopsAsking before after l (step_from asking)) (sym none) (record { found = before; todo = step_from asking; asked = (refl, refl); may = inr (ask_of asking, next_of asking, refl, may) })
+    subst (λ (l : List At). StopsAsking before after l (step_from asking)) (sym none) (record { found = before; todo = step_from asking; asked = (refl, refl); may = may })
 
 module _ {E : Type 0} (before after : BoardState) (asking : Asking) where
   -- nothing was asked yet
@@ -43,7 +43,7 @@ module _ {E : Type 0} (before after : BoardState) (asking : Asking) where
       subst (λ (l : List At). AsksOn before after l (step_from asking) (replies reply)) (sym one) (after, answered, refl, k, (refl, ap replies (sym is)))
   was_asked answered ats (Err e) k one is =
       subst (λ (l : List At). AsksAll before after l (step_from asking) (Err e)) (sym one)
-      (record { found = after; todo = next_of asking answered.answer; asked = (after, answered, refl, k, (refl, refl)); may = inl refl })
+      (record { found = after; todo = next_of asking answered.answer; asked = (after, answered, refl, k, (refl, refl)); may = refl })
 
 -- the mark tells what was asked
 pub marks_told : {E : Type 0} (number : ℕ) (g : Given) (before after : BoardState) (old new : List Mark) (step : Step) (res : Result Reply E) (ats : List At) → IsMarked number g ats old new → AsksAll before after ats step res

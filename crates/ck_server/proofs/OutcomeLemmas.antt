@@ -1,6 +1,6 @@
 -- Where a conversation stands after each of its steps.
 use Rattle.std.proofs.Common.{◌≡◌, true, false, ℕ, ◌+◌, ◌<◌, ◌≤◌, List, [], ◌∷◌, ◌++◌, length, take, drop, refl, sym, ap, subst, ◌∙◌, arith, inl, inr, append-nil, length-append, Option, Some, None, Ok, Err}
-use Rattle.std.proofs.lemmas.List.{drop_all, take-append-drop}
+use Rattle.std.proofs.lemmas.List.{drop_all, take-append-drop, length-drop}
 use Rattle.std.specs.Prelude.{⊤, ◌⊎◌}
 use Rattle.std.specs.List.{AllByRecursion}
 use Rattle.std.specs.Io.KnownBytes.{Appends}
@@ -47,8 +47,8 @@ goes-start t entry legal = record {
   conversed = conversed-start t entry legal;
   settled = record {
     own = λ lock. ap (own_of ((entry.board).seats lock)) (drop_all (length ((entry.board).histories lock)) ((entry.board).histories lock) (omega arith)) ∙ no_own-nil ((entry.board).seats lock);
-    turns = λ lock. omega arith;
-    left_behind = λ lone lock. refl;
+    turns = λ lock. sym (append-nil ((entry.board).turns lock));
+    left_behind = λ lone storing went lock. refl;
   };
   go_on = tt;
   little = omega arith;
@@ -63,7 +63,7 @@ with_both s left reads held writes = record { left = left; source_faults = reads
 
 module _ (t : Table) (gave : List Given → Type 0) (entry now : Standing) (marks : List Mark) (buffer : List ℕ) (goes : Goes t entry now marks buffer) (given : gave (givens_of marks)) where
   as_many : length marks ≡ length (goes.conversed).wanted
-  as_many = marks-length (now.board).seats (entry.board).histories (now.board).histories 0 marks (goes.conversed).wanted (goes.conversed).marked
+  as_many = marks-length entry.board now.board 0 marks (goes.conversed).wanted (goes.conversed).marked
 
   are_open : length marks < most_requests → AreOpen (goes.conversed).wanted
   are_open few = record { few = omega (arith, few, as_many); go_on = goes.go_on }
@@ -126,15 +126,23 @@ module _ (t : Table) (gave : List Given → Type 0) (entry now : Standing) (mark
         }
 
     -- or a front of what is written at the end
-    module _ (f : FrontFault) (fault_is : IsFault f left new) (b : BreaksLast now.held held f) where
-      abbrev parts : last_text b.end ≡ take b.count (last_text b.end) ++ drop b.count (last_text b.end)
-      parts = sym (take-append-drop b.count (last_text b.end))
-
-      abbrev cut_last : Conversed t entry later marks new (last_text b.end) (drop b.count (last_text b.end))
-      cut_last = said_last (last_text b.end) (take b.count (last_text b.end)) (drop b.count (last_text b.end)) parts b.appended
-
-      is_last : IsLast t (goes.conversed).wanted new (last_text b.end)
-      is_last = inr (b.end, (leaves f b.end fault_is b.is).0, refl)
+    broke_last : (f : FrontFault) → Rose entry.sink_faults writes → IsFault f left new → BreaksLast now.held held f → BreaksOff t gave entry later marks WriteFault
+    broke_last f cause fault_is b =
+        let text = last_text b.end in
+        let n = (b.front).count in
+        let parts : text ≡ take n text ++ drop n text = sym (take-append-drop n text) in
+        record {
+          cause = cause;
+          rest = new;
+          last = text;
+          unsent = drop n text;
+          some = omega (arith, (b.front).short, length-drop n text);
+          conversed = said_last text (take n text) (drop n text) parts (b.front).wrote;
+          settled = settled_later;
+          ends = inr (b.end, (leaves f b.end fault_is b.is).0, refl);
+          late = inl (take n text, parts);
+          given = given;
+        }
 
     pub broke : (f : FrontFault) (at : TalkFaultKind) → (f ≡ fault.ReadFault → Rose entry.source_faults reads) → (at ≡ WriteFault → Rose entry.sink_faults writes) → IsFault f left new → Finishes now.held held f (Err at)
         → BreaksOff t gave entry later marks at
@@ -147,45 +155,15 @@ module _ (t : Table) (gave : List Given → Type 0) (entry now : Standing) (mark
       unfinished = subst (λ (g : FrontFault). IsFault g left new) finishes.0 fault_is;
       given = given;
     }
-    broke f WriteFault read_cause write_cause fault_is b = record {
-      cause = write_cause refl;
+    broke f WriteFault read_cause write_cause fault_is b = broke_last f (write_cause refl) fault_is b
+    broke f NoMemory read_cause write_cause fault_is nothing_sent = record {
       rest = new;
-      last = last_text b.end;
-      unsent = drop b.count (last_text b.end);
-      conversed = cut_last f fault_is b;
-      settled = settled_later;
-      ends = is_last f fault_is b;
-      late = inl (take b.count (last_text b.end), parts f fault_is b);
-      given = given;
-    }
-    broke f NoMemory read_cause write_cause fault_is (inl none) = record {
-      rest = new;
-      last = [];
-      unsent = [];
       done = marks;
       begun = [];
       more = [];
       marks_are = sym (append-nil marks);
-      conversed = said_last [] [] [] refl none.1;
+      conversed = said_last [] [] [] refl nothing_sent;
       in_hand = nothing refl refl settled_later;
-      ends = inl refl;
-      late = inl ([], refl);
-      one_thing = inl refl;
-      given = subst gave (sym (append-nil (givens_of marks))) given;
-    }
-    broke f NoMemory read_cause write_cause fault_is (inr b) = record {
-      rest = new;
-      last = last_text b.end;
-      unsent = drop b.count (last_text b.end);
-      done = marks;
-      begun = [];
-      more = [];
-      marks_are = sym (append-nil marks);
-      conversed = cut_last f fault_is b;
-      in_hand = nothing refl refl settled_later;
-      ends = is_last f fault_is b;
-      late = inl (take b.count (last_text b.end), parts f fault_is b);
-      one_thing = inr (refl, refl);
       given = subst gave (sym (append-nil (givens_of marks))) given;
     }
 
@@ -273,7 +251,7 @@ module _ (t : Table) (entry now later : Standing) (old : List Mark) (buffer : Li
   kept_it grows appended = conversed_grown t entry (with_source now later.left later.source_faults) later old rest took_it grows refl appended
 
   settled_same : now.board ≡ later.board → AreSettled entry later old (goes.conversed).wanted
-  settled_same same = subst (λ (b : BoardState). IsSettled entry.board b old (after_all (entry.board).histories (goes.conversed).wanted (givens_of old))) same goes.settled
+  settled_same same = subst (λ (b : BoardState). IsSettled entry.board b old (λ storing. after_all storing (entry.board).histories (goes.conversed).wanted (givens_of old))) same goes.settled
 
   -- its form is not built
   pub left_unbuilt : IsLeft gave_step before after old new t r → EndsWell t gave entry later new NotBuilt
@@ -310,32 +288,22 @@ module _ (t : Table) (entry now later : Standing) (old : List Mark) (buffer : Li
       by_mark : LeavesUnmarked gave_step before after old new t r ⊎ LeavesAsking gave_step number before after old new t r → BreaksOff t gave entry later new NoMemory
       by_mark (inl l) = record {
         rest = rest;
-        last = [];
-        unsent = [];
         done = old;
         begun = [];
         more = l.more;
         marks_are = l.marks ∙ sym (append-nil old);
         conversed = kept_it (same_grows now.board later.board l.same) up.appended;
         in_hand = given_unmarked l.more l.one l.known (settled_same l.same);
-        ends = inl refl;
-        late = inl ([], refl);
-        one_thing = inl refl;
         given = subst (λ (marks : List Mark). gave (givens_of marks ++ l.more)) (sym l.marks) (join l.more l.given);
       }
       by_mark (inr l) = record {
         rest = rest;
-        last = [];
-        unsent = [];
         done = old;
         begun = l.mark ∷ [];
         more = [];
         marks_are = l.marks;
-        conversed = kept_it (grows_since t entry now old buffer goes.conversed goes.settled number count l.wanted l.mark l.request l.words later rest (in_front l.wanted l.is) l.found l.ask l.next l.asked l.may) up.appended;
-        in_hand = asking l.mark refl refl (was_asking t entry now old buffer goes.conversed goes.settled number count l.wanted l.mark l.request l.words later rest (in_front l.wanted l.is) l.found l.ask l.next l.asked l.may);
-        ends = inl refl;
-        late = inl ([], refl);
-        one_thing = inl refl;
+        conversed = kept_it (grows_since t entry now old buffer goes.conversed goes.settled number count l.wanted l.mark l.request l.words later rest (in_front l.wanted l.is) l.found l.todo l.asked l.may) up.appended;
+        in_hand = asking l.mark refl refl (was_asking t entry now old buffer goes.conversed goes.settled number count l.wanted l.mark l.request l.words later rest (in_front l.wanted l.is) l.found l.todo l.asked l.may);
         given = subst gave (sym (append-nil (givens_of new) ∙ (ap givens_of l.marks ∙ givens_of-snoc old l.mark))) (join (given_of l.mark ∷ []) l.given);
       }
 
@@ -343,33 +311,17 @@ module _ (t : Table) (entry now later : Standing) (old : List Mark) (buffer : Li
   pub breaks_serving : (at : TalkFaultKind) → (at ≡ WriteFault → Rose entry.sink_faults later.sink_faults) → Serves gave_step number before after old new t r (Err at) → BreaksOff t gave entry later new at
   breaks_serving ReadFault cause serves = absurd serves
   breaks_serving WriteFault cause serves =
-      let m = one_more serves.0 serves.1 in
+      let m = one_more serves.0 serves.2 in
       record {
         cause = cause refl;
         rest = buffer2;
         last = [];
         unsent = serves.0;
+        some = serves.1;
         conversed = m.conversed;
         settled = m.settled;
         ends = inl refl;
         late = inr (refl, little_now, m.of_reply);
-        given = given_now serves.0 serves.1;
+        given = given_now serves.0 serves.2;
       }
-  breaks_serving NoMemory cause (inl serves) =
-      let m = one_more serves.0 serves.1 in
-      record {
-        rest = buffer2;
-        last = [];
-        unsent = serves.0;
-        done = new;
-        begun = [];
-        more = [];
-        marks_are = sym (append-nil new);
-        conversed = m.conversed;
-        in_hand = nothing refl refl m.settled;
-        ends = inl refl;
-        late = inr (refl, little_now, m.of_reply);
-        one_thing = inr (refl, refl);
-        given = subst gave (sym (append-nil (givens_of new))) (given_now serves.0 serves.1);
-      }
-  breaks_serving NoMemory cause (inr up) = gave_up up
+  breaks_serving NoMemory cause up = gave_up up

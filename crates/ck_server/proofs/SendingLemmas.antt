@@ -42,5 +42,5 @@ finishes_refused held now f end (Ok e) is sends same =
     let the_end : e ≡ end = cc in
     (is ∙ ap (λ (x : End). Some x) (sym the_end), subst (λ (x : End). Appends held now (last_text x)) (sym the_end) sends)
 finishes_refused held now f end (Err ReadFault) is sends same = absurd sends
-finishes_refused held now f end (Err WriteFault) is sends same = record { end = end; is = is; count = sends.0; appended = sends.1 }
-finishes_refused held now f end (Err NoMemory) is sends same = inr (record { end = end; is = is; count = sends.0; appended = sends.1 })
+finishes_refused held now f end (Err WriteFault) is sends same = record { end = end; is = is; front = sends }
+finishes_refused held now f end (Err NoMemory) is sends same = sends

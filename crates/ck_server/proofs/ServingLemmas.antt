@@ -1,7 +1,7 @@
 -- How a request is served.
 use Rattle.std.proofs.Common.{◌≡◌, ℕ, ◌<◌, ◌≤◌, ◌^◌, Bool, true, false, List, [], ◌∷◌, ◌++◌, length, take, drop, refl, sym, ap, subst, ◌∙◌, arith, inl, inr, append-nil, Option, Some, None, Result, Ok, Err}
 use Rattle.std.specs.Prelude.{◌⊎◌}
-use Rattle.std.proofs.lemmas.List.{take-append-drop}
+use Rattle.std.proofs.lemmas.List.{take-append-drop, length-drop}
 use Rattle.std.proofs.lemmas.Bool.{and_parts}
 use Rattle.std.specs.Result.{IsErrAnd}
 use Rattle.std.specs.Io.KnownBytes.{Appends}
@@ -12,11 +12,12 @@ use Rattle.ck_base.specs.declared.route.Database.TheVariants.{Private, Shared, P
 use Rattle.ck_base.specs.KnownNames.{is_own_default}
 use Rattle.zone_laws.proofs.NameLaws.{same-true}
 use Rattle.board_model.specs.Parts.{IsOwnDefault, MayBeAsked}
-use Rattle.board_model.specs.Turns.{BoardState, MayHaveAsked}
+use Rattle.board_model.specs.Turns.{BoardState}
 use Rattle.board_model.specs.declared.answers.Answer.{Answer}
 use Rattle.board_model.specs.declared.answers.Answer.TheVariants as answer
 use Rattle.ck_devices.specs.Runs.{GivesInTurn}
 use Rattle.ck_devices.specs.declared.faults.Failed.{Failed}
+use Rattle.ck_devices.specs.Fronts.{WritesFront}
 use Rattle.ck_devices.proofs.Streams.{appends-nil}
 use Rattle.error_replies.specs.declared.errors.ServerError.{ServerError}
 use Rattle.error_replies.specs.declared.errors.ServerError.TheVariants.{TryAgainLater}
@@ -79,16 +80,16 @@ module _ (gave : List Given → Type 0) (number : ℕ) (before after : Place) (o
     pub sent_serves : Appends before.held after.held text → Serves gave number before after old new t r (Ok served.Answered)
     sent_serves sends = all_served text [] (sym (append-nil text)) sends
 
-    pub broken_serves : (T : Type 0) (at : TalkFaultKind) → Sends {T = T} before.held after.held text (Err at) → Serves gave number before after old new t r (Err at)
-    broken_serves T ReadFault sends = absurd sends
-    broken_serves T WriteFault sends = (drop sends.0 text, all_served (take sends.0 text) (drop sends.0 text) (sym (take-append-drop sends.0 text)) sends.1)
-    broken_serves T NoMemory sends = inl (drop sends.0 text, all_served (take sends.0 text) (drop sends.0 text) (sym (take-append-drop sends.0 text)) sends.1)
+    pub front_serves : WritesFront before.held after.held text → Serves gave number before after old new t r (Err WriteFault)
+    front_serves front =
+        let n = front.count in
+        (drop n text, omega (arith, front.short, length-drop n text), all_served (take n text) (drop n text) (sym (take-append-drop n text)) front.wrote)
 
   -- memory ran out at an ask, or behind the last one
-  stops : (found : BoardState) (ask : Ask) (next : Answer → Step) → AsksOn before.board found ats (step_for w.want g) (asks ask next) → MayBeAsking found after.board ask → Appends before.held after.held [] → Serves gave number before after old new t r (Err NoMemory)
-  stops found ask next asked may appended =
+  stops : (found : BoardState) (todo : Step) → AsksOn before.board found ats (step_for w.want g) todo → MayBeAsking found after.board todo → Appends before.held after.held [] → Serves gave number before after old new t r (Err NoMemory)
+  stops found todo asked may appended =
       let k = marked in
-      inr (record {
+      record {
         appended = appended;
         leaves = inr (record {
           wanted = w;
@@ -99,24 +100,21 @@ module _ (gave : List Given → Type 0) (number : ℕ) (before after : Place) (o
           request = k.request;
           words = subst (λ (x : Given). AreWordsFor w.want x) (sym k.given) words;
           found = found;
-          ask = ask;
-          next = next;
-          asked = subst (λ (x : Given). AsksOn before.board found (k.mark).asks.items (step_for w.want x) (asks ask next)) (sym k.given)
-              (subst (λ (l : List At). AsksOn before.board found l (step_for w.want g) (asks ask next)) (sym k.asks) asked);
+          todo = todo;
+          asked = subst (λ (x : Given). AsksOn before.board found (k.mark).asks.items (step_for w.want x) todo) (sym k.given)
+              (subst (λ (l : List At). AsksOn before.board found l (step_for w.want g) todo) (sym k.asks) asked);
           may = may;
         });
-      })
-
-  stopped : (found : BoardState) (todo : Step) → AsksOn before.board found ats (step_for w.want g) todo
-      → (found ≡ after.board) ⊎ ((a : Ask) × (next : Answer → Step) × (todo ≡ asks a next) × MayHaveAsked found after.board a.lock a.part) → Appends before.held after.held []
-      → Serves gave number before after old new t r (Err NoMemory)
-  stopped found (asks a next) asked (inl same) appended = stops found a next asked (inl same) appended
-  stopped found (replies reply) asked (inl same) appended =
-      inl (text_of w.close reply, all_served reply (subst (λ (b : BoardState). AsksOn before.board b ats (step_for w.want g) (replies reply)) same asked) [] (text_of w.close reply) refl appended)
-  stopped found todo asked (inr k) appended = stops found k.0 k.1 (subst (λ (s : Step). AsksOn before.board found ats (step_for w.want g) s) k.2 asked) (inr k.3) appended
+      }
 
   pub stopped_serves : StopsAsking before.board after.board ats (step_for w.want g) → Appends before.held after.held [] → Serves gave number before after old new t r (Err NoMemory)
-  stopped_serves k appended = stopped k.found k.todo k.asked k.may appended
+  stopped_serves k appended = stops k.found k.todo k.asked k.may appended
+
+  pub broken_serves : (reply : Reply) → AsksOn before.board after.board ats (step_for w.want g) (replies reply) → (T : Type 0) (at : TalkFaultKind) → Sends {T = T} before.held after.held (text_of w.close reply) (Err at)
+      → Serves gave number before after old new t r (Err at)
+  broken_serves reply asked T ReadFault sends = absurd sends
+  broken_serves reply asked T WriteFault sends = front_serves reply asked sends
+  broken_serves reply asked T NoMemory sends = stops after.board (replies reply) asked refl sends
 
 -- ---- what was given
 
@@ -155,8 +153,7 @@ serves_by gave gave2 number before after old new t r on res serves = by_result r
       request = l.request;
       words = l.words;
       found = l.found;
-      ask = l.ask;
-      next = l.next;
+      todo = l.todo;
       asked = l.asked;
       may = l.may;
     })
@@ -165,9 +162,8 @@ serves_by gave gave2 number before after old new t r on res serves = by_result r
     by_result (Ok served.Answered) s = again [] s
     by_result (Ok served.NotBuilt) l = record { want = l.want; given = on [] l.given; marks = l.marks; same = l.same; appended = l.appended }
     by_result (Err ReadFault) s = absurd s
-    by_result (Err WriteFault) s = (s.0, again s.0 s.1)
-    by_result (Err NoMemory) (inl s) = inl (s.0, again s.0 s.1)
-    by_result (Err NoMemory) (inr up) = inr (record { appended = up.appended; leaves = leaving up.leaves })
+    by_result (Err WriteFault) s = (s.0, s.1, again s.0 s.2)
+    by_result (Err NoMemory) up = record { appended = up.appended; leaves = leaving up.leaves }
 
 -- a moment and the words of one request
 pub gave_for : {C R : Type 0} (clock : C → ℕ → C → Type 0) (draws : R → Result (List ℕ) Failed → R → Type 0) (c c2 : C) (r r2 : R) (moment : ℕ) → clock c moment c2 → (given : List Given) → GaveOne moment draws r r2 given
@@ -190,7 +186,7 @@ by_memory X (Err e) err k = subst (λ (at : TalkFaultKind). X (Err at)) (sym err
 pub given_up : (gave : List Given → Type 0) (number : ℕ) (before after : Place) (old new : List Mark) (t : Table) (r : Request) (more : List Given) → length more ≤ 1 → AllByRecursion (IsGivenFor t r) more → gave more
     → new ≡ old → before.board ≡ after.board → Appends before.held after.held [] → Serves gave number before after old new t r (Err NoMemory)
 given_up gave number before after old new t r more one known given marks same appended =
-    inr (record { appended = appended; leaves = inl (record { marks = marks; same = same; more = more; one = one; known = known; given = given }) })
+    record { appended = appended; leaves = inl (record { marks = marks; same = same; more = more; one = one; known = known; given = given }) }
 
 -- ---- a request that is refused
 
@@ -217,9 +213,9 @@ module _ (gave : List Given → Type 0) (number : ℕ) (held now : Option (List 
     refusal_by (Ok served.Answered) k = sent_serves gave number unheld refused old new t r refused_meaning is g given [] k.0 words (Refused error) (refl, step) k.1
     refusal_by (Ok served.NotBuilt) k = absurd k
     refusal_by (Err ReadFault) k = absurd k
-    refusal_by (Err WriteFault) k = refusal_broken WriteFault k.marked (k.count, k.appended)
-    refusal_by (Err NoMemory) (inl k) = given_up gave number unheld refused old new t r (g ∷ []) (omega arith) (record { wanted = refused_meaning; is = is; words = inr words }, tt) given k.0 refl k.1
-    refusal_by (Err NoMemory) (inr k) = refusal_broken NoMemory k.marked (k.count, k.appended)
+    refusal_by (Err WriteFault) k = refusal_broken WriteFault k.marked k.front
+    refusal_by (Err NoMemory) (nothing, inl same) = given_up gave number unheld refused old new t r (g ∷ []) (omega arith) (record { wanted = refused_meaning; is = is; words = inr words }, tt) given same refl nothing
+    refusal_by (Err NoMemory) (nothing, inr marked) = refusal_broken NoMemory marked nothing
 
   -- it asks nothing, and has the reply that was written, so it is served on whatever board
   pub refusal_serves : (res : Result Served TalkFaultKind) → Refuses number g held now old new (text_of close (Refused error)) res → ServesWant gave number unheld refused old new close want res
@@ -232,11 +228,13 @@ modify_next : (c : ModifyCall) (g : Given) (a : Answer) → reply_from (asking_o
 modify_next c g (answer.Modify outcomes) = refl
 modify_next c g (answer.Lookup records) = refl
 modify_next c g answer.NoZone = refl
+modify_next c g answer.StoreFailed = refl
 
 lookup_next : (c : LookupCall) (g : Given) (a : Answer) → reply_from (asking_of (Lookup c) g).part (asking_of (Lookup c) g).options a ≡ lookup_reply c a
 lookup_next c g (answer.Modify outcomes) = refl
 lookup_next c g (answer.Lookup records) = refl
 lookup_next c g answer.NoZone = refl
+lookup_next c g answer.StoreFailed = refl
 
 -- what a call asks first tells its step
 pub step_is : (call : Call) (g : Given) → step_from (asking_of call g) ≡ step_of call g

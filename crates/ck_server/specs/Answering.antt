@@ -1,8 +1,8 @@
 -- How one request is served.
-use Rattle.std.specs.Prelude.{◌≡◌, ◌⊎◌, ℕ, ◌≤◌, List, [], ◌∷◌, ◌++◌, length, take, Option, None, Some, Result, Ok, Err}
+use Rattle.std.specs.Prelude.{◌≡◌, ◌⊎◌, ℕ, ◌<◌, ◌≤◌, List, [], ◌∷◌, ◌++◌, length, Option, None, Some, Result, Ok, Err}
 use Rattle.std.specs.List.{AllByRecursion}
 use Rattle.std.specs.Io.KnownBytes.{Appends}
-use Rattle.board_model.specs.declared.answers.Answer.{Answer}
+use Rattle.ck_devices.specs.Fronts.{WritesFront}
 use Rattle.board_model.specs.declared.answers.Answered.{Answered}
 use Rattle.board_model.specs.Turns.{BoardState, IsAsked}
 use Rattle.http_front.specs.declared.request.Request.{Request}
@@ -72,7 +72,7 @@ pub record LeavesUnmarked (gave : List Given → Type 0) (before after : Place) 
   pub known : AllByRecursion (IsGivenFor t r) more
   pub given : gave more
 
--- The request has its mark, with the asks that were whole, and the next was in hand.
+-- The request has its mark, with the asks that were whole, and the next was in hand, or the reply.
 pub record LeavesAsking (gave : List Given → Type 0) (number : ℕ) (before after : Place) (old new : List Mark) (t : Table) (r : Request) : Type 0 where
   pub wanted : Meaning
   pub is : IsWanted t r wanted
@@ -82,12 +82,11 @@ pub record LeavesAsking (gave : List Given → Type 0) (number : ℕ) (before af
   pub request : mark.request ≡ number
   pub words : AreWordsFor wanted.want (given_of mark)
   pub found : BoardState
-  pub ask : Ask
-  pub next : Answer → Step
-  pub asked : AsksOn before.board found mark.asks.items (step_for wanted.want (given_of mark)) (asks ask next)
-  pub may : MayBeAsking found after.board ask
+  pub todo : Step
+  pub asked : AsksOn before.board found mark.asks.items (step_for wanted.want (given_of mark)) todo
+  pub may : MayBeAsking found after.board todo
 
--- Memory ran out before there was a reply, and nothing was written.
+-- Memory ran out before its reply was written, and nothing of that was.
 pub record GivesUp (gave : List Given → Type 0) (number : ℕ) (before after : Place) (old new : List Mark) (t : Table) (r : Request) : Type 0 where
   pub appended : Appends before.held after.held []
   pub leaves : LeavesUnmarked gave before after old new t r ⊎ LeavesAsking gave number before after old new t r
@@ -100,17 +99,17 @@ pub record IsLeft (gave : List Given → Type 0) (before after : Place) (old new
   pub same : before.board ≡ after.board
   pub appended : Appends before.held after.held []
 
--- a request was answered, or its form is not built, or a part of its reply was written, or memory ran out
+-- a request was answered, or its form is not built, or a part of its reply was written and not all, or memory ran out
 abbrev pub Serves : (List Given → Type 0) → ℕ → Place → Place → List Mark → List Mark → Table → Request → Result Served TalkFaultKind → Type 0
 Serves gave number before after old new t r (Ok WasAnswered) = IsServed gave number before after old new t r []
 Serves gave number before after old new t r (Ok NotBuilt) = IsLeft gave before after old new t r
-Serves gave number before after old new t r (Err WriteFault) = (unsent : List ℕ) × IsServed gave number before after old new t r unsent
-Serves gave number before after old new t r (Err NoMemory) = ((unsent : List ℕ) × IsServed gave number before after old new t r unsent) ⊎ GivesUp gave number before after old new t r
+Serves gave number before after old new t r (Err WriteFault) = (unsent : List ℕ) × (0 < length unsent) × IsServed gave number before after old new t r unsent
+Serves gave number before after old new t r (Err NoMemory) = GivesUp gave number before after old new t r
 Serves gave number before after old new t r (Err ReadFault) = ⊥
 
--- a text was written, or a front of it
+-- a text was written, or a front of it and not all, or nothing
 abbrev pub Sends : {T : Type 0} → Option (List ℕ) → Option (List ℕ) → List ℕ → Result T TalkFaultKind → Type 0
 Sends held now text (Ok x) = Appends held now text
-Sends held now text (Err WriteFault) = (n : ℕ) × Appends held now (take n text)
-Sends held now text (Err NoMemory) = (n : ℕ) × Appends held now (take n text)
+Sends held now text (Err WriteFault) = WritesFront held now text
+Sends held now text (Err NoMemory) = Appends held now []
 Sends held now text (Err ReadFault) = ⊥

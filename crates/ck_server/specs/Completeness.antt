@@ -18,7 +18,7 @@ use Rattle.ck_server.specs.Outcomes.{ComesTo}
 -- Each of the requests that a connection answers has its mark, all of their replies were written, and nothing else; and the
 -- connection ended as it should.
 pub record AnswersAll (t : Table) (entry now : Standing) (requests : List Request) (marks : List Mark) (end : End) : Type 0 where
-  pub marked : AreMarksOf now.board.seats 0 entry.board.histories now.board.histories marks (answered t requests)
+  pub marked : AreMarksOf 0 entry.board now.board marks (answered t requests)
   pub written : Appends entry.held now.held (talk (answered t requests) marks now.board.histories)
   pub end_is : end ≡ end_behind t requests
 

@@ -3,7 +3,7 @@ use Rattle.std.specs.Prelude.{◌≡◌, ◌⊎◌, ℕ, true, ◌<◌, ◌≤�
 use Rattle.std.specs.List.{AllZip, concat}
 use Rattle.std.specs.Io.KnownBytes.{Consumes, Appends}
 use Rattle.zone_model.specs.declared.events.Event.{Event}
-use Rattle.zone_model.specs.Histories.{Histories, Grows}
+use Rattle.zone_model.specs.Histories.{Histories}
 use Rattle.board_model.specs.Turns.{BoardState, AreLegal}
 use Rattle.http_front.specs.Reading.{most_piece, HasLastPiece}
 use Rattle.http_front.specs.Users.{Table}
@@ -11,9 +11,9 @@ use Rattle.talk_model.specs.declared.marks.Mark.{Mark}
 use Rattle.talk_model.specs.Requests.{Meaning, Wants}
 use Rattle.talk_model.specs.Given.{given_of, givens_of}
 use Rattle.talk_model.specs.Connections.{most_requests, GoOn, AreClosing}
-use Rattle.talk_model.specs.Marks.{SeatsStay, AreMarksOf, AreInOrder, OwnAreMarked, TurnsAreMarked, asks_in}
+use Rattle.talk_model.specs.Marks.{IsLater, AreMarksOf, AreInOrder, OwnAreMarked, TurnsAreMarked, asks_in}
 use Rattle.talk_model.specs.Talk.{reply_at, talk}
-use Rattle.talk_model.specs.Alone.{after_all, text_alone, alone_text}
+use Rattle.talk_model.specs.Alone.{Storing, WentSo, after_all, text_alone, alone_text}
 
 -- where a conversation stands: what its source has left and its sink holds, where they tell it, how often they have failed, and what its board tells
 pub record Standing : Type 0 where
@@ -26,6 +26,10 @@ pub record Standing : Type 0 where
 -- the board is alone, and writes as seat 0
 abbrev pub IsLone : BoardState → Type 0
 IsLone b = (b.alone ≡ true) × ((lock : ℕ) → b.seats lock ≡ Some 0)
+
+-- so it is of a board that is alone, with the appends as they went
+abbrev pub OfLone : BoardState → BoardState → (Storing → Type 0) → Type 0
+OfLone entry now holds = IsLone entry → (storing : Storing) → WentSo storing now.histories → holds storing
 
 -- From entry until now, whole requests and then rest were taken, and of the rest no more than it takes to see what it begins with;
 -- each request has its mark, which fits the histories, and none but the last asked to close; and of
@@ -40,15 +44,13 @@ pub record Conversed (t : Table) (entry now : Standing) (marks : List Mark) (res
   pub closing : GoOn wanted ⊎ AreClosing wanted
   pub consumed : Consumes entry.left now.left (concat requests ++ rest)
   pub ahead : HasLastPiece rest
-  pub grown : Grows entry.board.histories now.board.histories
-  pub stay : SeatsStay entry.board.seats now.board.seats
-  pub still : now.board.alone ≡ entry.board.alone
+  pub board : IsLater entry.board now.board
   pub legal : AreLegal now.board.histories
-  pub marked : AreMarksOf now.board.seats 0 entry.board.histories now.board.histories marks wanted
+  pub marked : AreMarksOf 0 entry.board now.board marks wanted
   pub ordered : AreInOrder (asks_in marks)
   pub text : talk wanted marks now.board.histories ++ last ≡ sent ++ unsent
   pub appended : Appends entry.held now.held sent
-  pub said : IsLone entry.board → talk wanted marks now.board.histories ≡ alone_text entry.board.histories wanted (givens_of marks)
+  pub said : OfLone entry.board now.board (λ storing. talk wanted marks now.board.histories ≡ alone_text storing entry.board.histories wanted (givens_of marks))
 
 -- the text ends in these bytes
 abbrev pub EndsIn : List ℕ → List ℕ → Type 0
@@ -63,7 +65,7 @@ pub record IsOfReply (entry now : Standing) (wanted : List Meaning) (marks : Lis
   pub requests_are : wanted ≡ earlier ++ request ∷ []
   pub marks_are : marks ≡ before ++ mark ∷ []
   pub ends : EndsIn (reply_at now.board.histories mark request) unsent
-  pub said : IsLone entry.board → EndsIn (text_alone (after_all entry.board.histories earlier (givens_of before)) request (given_of mark)) unsent
+  pub said : OfLone entry.board now.board (λ storing. EndsIn (text_alone storing (after_all storing entry.board.histories earlier (givens_of before)) request (given_of mark)) unsent)
 
 -- What is unsent is of what is written last or, where that is nothing, of the last reply: whatever stands before it was written whole. A
 -- reply is written before more is read: behind its request less was taken than one read takes.
@@ -73,11 +75,11 @@ IsOfLast entry now wanted marks rest last unsent =
 
 -- The board was asked just what the marks tell: each lock has had just these asks more, the board's own events beyond those at
 -- entry are just those that they made, and a board that is alone has the histories of this run.
-pub record IsSettled (entry found : BoardState) (marks : List Mark) (run : Histories Event) : Type 0 where
-  pub own : OwnAreMarked found.seats entry.histories found.histories (asks_in marks)
-  pub turns : TurnsAreMarked entry.turns found.turns (asks_in marks)
-  pub left_behind : IsLone entry → (lock : ℕ) → found.histories lock ≡ run lock
+pub record IsSettled (entry found : BoardState) (marks : List Mark) (run : Storing → Histories Event) : Type 0 where
+  pub own : OwnAreMarked entry found (asks_in marks)
+  pub turns : TurnsAreMarked entry found (asks_in marks)
+  pub left_behind : OfLone entry found (λ storing. (lock : ℕ) → found.histories lock ≡ run storing lock)
 
 -- so it is behind requests that were answered
 abbrev pub AreSettled : Standing → Standing → List Mark → List Meaning → Type 0
-AreSettled entry now marks wanted = IsSettled entry.board now.board marks (after_all entry.board.histories wanted (givens_of marks))
+AreSettled entry now marks wanted = IsSettled entry.board now.board marks (λ storing. after_all storing entry.board.histories wanted (givens_of marks))

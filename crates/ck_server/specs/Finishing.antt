@@ -1,6 +1,7 @@
 -- How a conversation finishes where no further request is read.
-use Rattle.std.specs.Prelude.{◌≡◌, ◌⊎◌, ℕ, List, [], take, Option, Some, None, Result, Ok, Err}
+use Rattle.std.specs.Prelude.{◌≡◌, ℕ, List, [], Option, Some, None, Result, Ok, Err}
 use Rattle.std.specs.Io.KnownBytes.{Appends}
+use Rattle.ck_devices.specs.Fronts.{WritesFront}
 use Rattle.http_front.specs.declared.faults.FrontFault.{FrontFault}
 use Rattle.http_front.specs.declared.faults.FrontFault.TheVariants as fault
 use Rattle.talk_model.specs.declared.ends.End.{End}
@@ -20,16 +21,15 @@ end_at fault.BodyTooLong = Some BodyTooLong
 end_at fault.ReadFault = None
 end_at fault.NoMemory = None
 
--- A front of what is written at the end was written.
+-- A front of what is written at the end was written, and not all.
 pub record BreaksLast (held now : Option (List ℕ)) (f : FrontFault) : Type 0 where
   pub end : End
   pub is : end_at f ≡ Some end
-  pub count : ℕ
-  pub appended : Appends held now (take count (last_text end))
+  pub front : WritesFront held now (last_text end)
 
--- what is written at the end was written, or a front of it; or there is no end, but the fault
+-- what is written at the end was written, or a front of it; or there is no end, but the fault; or memory ran out
 abbrev pub Finishes : Option (List ℕ) → Option (List ℕ) → FrontFault → Result End TalkFaultKind → Type 0
 Finishes held now f (Ok end) = (end_at f ≡ Some end) × Appends held now (last_text end)
 Finishes held now f (Err ReadFault) = (f ≡ fault.ReadFault) × Appends held now []
 Finishes held now f (Err WriteFault) = BreaksLast held now f
-Finishes held now f (Err NoMemory) = ((f ≡ fault.NoMemory) × Appends held now []) ⊎ BreaksLast held now f
+Finishes held now f (Err NoMemory) = Appends held now []

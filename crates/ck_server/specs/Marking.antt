@@ -1,9 +1,9 @@
 -- How a request is marked and answered, step by step.
-use Rattle.std.specs.Prelude.{◌≡◌, ◌⊎◌, ◌<◌, ◌^◌, ℕ, Bool, List, [], ◌∷◌, ◌++◌, length, take, Option, None, Some, Result, Ok, Err}
+use Rattle.std.specs.Prelude.{◌≡◌, ◌⊎◌, ◌<◌, ◌^◌, ℕ, Bool, List, [], ◌∷◌, ◌++◌, length, Option, None, Some, Result, Ok, Err}
 use Rattle.std.specs.Io.KnownBytes.{Appends}
-use Rattle.board_model.specs.declared.answers.Answer.{Answer}
+use Rattle.ck_devices.specs.Fronts.{WritesFront}
 use Rattle.board_model.specs.Parts.{MayBeAsked}
-use Rattle.board_model.specs.Turns.{BoardState, MayHaveAsked}
+use Rattle.board_model.specs.Turns.{BoardState}
 use Rattle.ck_devices.specs.declared.faults.Failed.{Failed}
 use Rattle.ck_devices.specs.Runs.{GivesInTurn}
 use Rattle.board_model.specs.declared.parts.Part.TheVariants as part
@@ -19,11 +19,12 @@ use Rattle.talk_model.specs.declared.ends.TalkFaultKind.{TalkFaultKind}
 use Rattle.talk_model.specs.declared.ends.TalkFaultKind.TheVariants.{ReadFault, WriteFault, NoMemory}
 use Rattle.talk_model.specs.Requests.{want_of}
 use Rattle.talk_model.specs.Given.{Given, given_of, draws_in}
-use Rattle.talk_model.specs.Calls.{Ask, Step, asks, replies, lock_of_zone, scope_of}
+use Rattle.talk_model.specs.Calls.{Step, asks, replies, lock_of_zone, scope_of}
 use Rattle.ck_server.specs.declared.serving.Served.{Served}
 use Rattle.ck_server.specs.declared.serving.Served.TheVariants.{Answered, NotBuilt}
 use Rattle.ck_server.specs.declared.asking.Asking.{Asking}
 use Rattle.ck_server.specs.ReplyOptions.{HasMeantOps, reply_from}
+use Rattle.ck_server.specs.Outcomes.{MayBeAsking}
 use Rattle.ck_server.specs.Answering.{Place, AsksOn, Serves}
 
 abbrev pub given_with : ℕ → List (List ℕ) → Bool → Given
@@ -65,7 +66,7 @@ pub record StopsAsking (before after : BoardState) (ats : List At) (step : Step)
   pub found : BoardState
   pub todo : Step
   pub asked : AsksOn before found ats step todo
-  pub may : (found ≡ after) ⊎ ((a : Ask) × (next : Answer → Step) × (todo ≡ asks a next) × MayHaveAsked found after a.lock a.part)
+  pub may : MayBeAsking found after todo
 
 -- what the step asks was asked, up to its reply, or memory ran out
 abbrev pub AsksAll : {E : Type 0} → BoardState → BoardState → List At → Step → Result Reply E → Type 0
@@ -88,19 +89,18 @@ abbrev pub ServesWant : (List Given → Type 0) → ℕ → Place → Place → 
 ServesWant gave number before after old new close want result =
     (t : Table) (r : Request) → r.close ≡ close → want_of t r ≡ Some want → Serves gave number before after old new t r result
 
--- A mark without asks was made, and a front of the text was written.
+-- A mark without asks was made, and a front of the text was written, and not all.
 pub record BreaksRefusing (number : ℕ) (g : Given) (held now : Option (List ℕ)) (old new : List Mark) (text : List ℕ) : Type 0 where
   pub marked : IsMarked number g [] old new
-  pub count : ℕ
-  pub appended : Appends held now (take count text)
+  pub front : WritesFront held now text
 
--- a request was marked without asks and answered with the text, or a front of it, or memory ran out before
+-- a request was marked without asks and answered with the text, or a front of it, or memory ran out before or behind the mark
 abbrev pub Refuses : ℕ → Given → Option (List ℕ) → Option (List ℕ) → List Mark → List Mark → List ℕ → Result Served TalkFaultKind → Type 0
 Refuses number g held now old new text (Ok Answered) = IsMarked number g [] old new × Appends held now text
 Refuses number g held now old new text (Ok NotBuilt) = ⊥
 Refuses number g held now old new text (Err ReadFault) = ⊥
 Refuses number g held now old new text (Err WriteFault) = BreaksRefusing number g held now old new text
-Refuses number g held now old new text (Err NoMemory) = ((new ≡ old) × Appends held now []) ⊎ BreaksRefusing number g held now old new text
+Refuses number g held now old new text (Err NoMemory) = Appends held now [] × ((new ≡ old) ⊎ IsMarked number g [] old new)
 
 -- one request was given this moment, and its words in turn
 abbrev pub GaveOne : {R : Type 0} → ℕ → (R → Result (List ℕ) Failed → R → Type 0) → R → R → List Given → Type 0

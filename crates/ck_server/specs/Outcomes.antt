@@ -3,7 +3,6 @@ use Rattle.std.specs.Prelude.{◌≡◌, ◌⊎◌, ℕ, true, ◌<◌, ◌≤�
 use Rattle.std.specs.List.{concat}
 use Rattle.std.specs.Io.KnownBytes.{IsAtEnd}
 use Rattle.ck_devices.specs.Causes.{Rose}
-use Rattle.board_model.specs.declared.answers.Answer.{Answer}
 use Rattle.board_model.specs.Turns.{BoardState, MayHaveAsked}
 use Rattle.http_front.specs.Users.{Table}
 use Rattle.http_front.specs.Requests.{IsUnfinished}
@@ -18,9 +17,9 @@ use Rattle.talk_model.specs.declared.marks.Mark.{Mark}
 use Rattle.talk_model.specs.declared.wants.Want.{Want}
 use Rattle.talk_model.specs.Requests.{Meaning, Wants}
 use Rattle.talk_model.specs.Given.{Given, given_of, givens_of, AreWordsFor}
-use Rattle.talk_model.specs.Calls.{Ask, Step, asks, step_for}
+use Rattle.talk_model.specs.Calls.{Step, asks, replies, step_for}
 use Rattle.talk_model.specs.Connections.{AreOpen, LeavesAt, AreRequests, last_text}
-use Rattle.talk_model.specs.Marks.{IsMarkOf, AreInOrder, asks_in, step_behind}
+use Rattle.talk_model.specs.Marks.{IsLater, IsMarkOf, AreInOrder, asks_in, step_behind}
 use Rattle.talk_model.specs.Alone.{after_all, after_asks}
 use Rattle.ck_server.specs.Conversations.{Standing, Conversed, IsSettled, AreSettled, IsOfLast}
 
@@ -69,24 +68,23 @@ pub record WasGiven (t : Table) (earlier : List Meaning) (rest : List ℕ) (give
   pub front : IsInFront t earlier rest wanted
   pub words : MayBeWordsFor wanted.want given
 
--- The board was not asked further, or it was asked this, and may have added what the ask makes.
-abbrev pub MayBeAsking : BoardState → BoardState → Ask → Type 0
-MayBeAsking found now ask = (found ≡ now) ⊎ MayHaveAsked found now ask.lock ask.part
+-- The board was not asked further, or it was asked what the step asks, and may have added what the ask makes.
+abbrev pub MayBeAsking : BoardState → BoardState → Step → Type 0
+MayBeAsking found now (asks ask next) = MayHaveAsked found now ask.lock ask.part
+MayBeAsking found now (replies r) = found ≡ now
 
 -- The request in front has this mark behind those of the earlier ones, which tells the asks of it that were whole; then the next of them was in
--- hand.
+-- hand, or its reply, of which nothing was written.
 pub record WasAsking (t : Table) (entry now : Standing) (earlier : List Meaning) (done : List Mark) (rest : List ℕ) (mark : Mark) : Type 0 where
   pub wanted : Meaning
   pub front : IsInFront t earlier rest wanted
-  pub marked : IsMarkOf now.board.seats (length done) entry.board.histories now.board.histories mark wanted
+  pub marked : IsMarkOf (length done) entry.board now.board mark wanted
   pub ordered : AreInOrder (asks_in (done ++ mark ∷ []))
   pub found : BoardState
+  pub later : IsLater entry.board found
   pub settled : IsSettled entry.board found (done ++ mark ∷ [])
-      (after_asks (length mark.asks.items) (after_all entry.board.histories earlier (givens_of done)) (step_for wanted.want (given_of mark)))
-  pub ask : Ask
-  pub next : Answer → Step
-  pub next_is : step_behind now.board.histories mark wanted ≡ asks ask next
-  pub may : MayBeAsking found now.board ask
+      (λ storing. after_asks storing (length mark.asks.items) (after_all storing entry.board.histories earlier (givens_of done)) (step_for wanted.want (given_of mark)))
+  pub may : MayBeAsking found now.board (step_behind now.board.histories mark wanted)
 
 -- What was in hand when memory ran out, behind the requests that were answered: nothing, a request for which the clock was read and perhaps its
 -- words drawn, or one that was asking. Begun are the marks, and more is what was given for requests, beyond those of the answered ones.
@@ -105,32 +103,28 @@ pub record BreaksReading (t : Table) (gave : List Given → Type 0) (entry now :
   pub unfinished : IsUnfinished rest
   pub given : gave (givens_of marks)
 
--- After a fault of the sink all was written but the end of the last reply, or of what is written last.
+-- After a fault of the sink all was written but the end of the last reply, or of what is written last: not all of that was.
 pub record BreaksWriting (t : Table) (gave : List Given → Type 0) (entry now : Standing) (marks : List Mark) : Type 0 where
   pub cause : Rose entry.sink_faults now.sink_faults
   pub rest : List ℕ
   pub last : List ℕ
   pub unsent : List ℕ
+  pub some : 0 < length unsent
   pub conversed : Conversed t entry now marks rest last unsent
   pub settled : AreSettled entry now marks conversed.wanted
   pub ends : IsLast t conversed.wanted rest last
   pub late : IsOfLast entry now conversed.wanted marks rest last unsent
   pub given : gave (givens_of marks)
 
--- So it is where memory ran out, and one request may be in hand, but not while some reply is unsent.
+-- Where memory ran out the replies to the requests that were answered were written, and nothing else; and one request may be in hand.
 pub record BreaksOnMemory (t : Table) (gave : List Given → Type 0) (entry now : Standing) (marks : List Mark) : Type 0 where
   pub rest : List ℕ
-  pub last : List ℕ
-  pub unsent : List ℕ
   pub done : List Mark
   pub begun : List Mark
   pub more : List Given
   pub marks_are : marks ≡ done ++ begun
-  pub conversed : Conversed t entry now done rest last unsent
+  pub conversed : Conversed t entry now done rest [] []
   pub in_hand : HasInHand t entry now conversed.wanted done rest begun more
-  pub ends : IsLast t conversed.wanted rest last
-  pub late : IsOfLast entry now conversed.wanted done rest last unsent
-  pub one_thing : (unsent ≡ []) ⊎ ((begun ≡ []) × (more ≡ []))
   pub given : gave (givens_of marks ++ more)
 
 -- what stands of a conversation that breaks off

@@ -5,7 +5,7 @@ use Rattle.board_model.specs.declared.parts.Part.{Part}
 use Rattle.board_model.specs.declared.parts.Part.TheVariants as part
 use Rattle.board_model.specs.declared.answers.Answer.{Answer}
 use Rattle.board_model.specs.declared.answers.Answer.TheVariants as answer
-use Rattle.error_replies.specs.declared.errors.ServerError.TheVariants.{ZoneNotFound}
+use Rattle.error_replies.specs.declared.errors.ServerError.TheVariants.{TryAgainLater, ZoneNotFound}
 use Rattle.wire_calls.specs.declared.reply.Reply.{Reply}
 use Rattle.wire_calls.specs.declared.reply.Reply.TheVariants.{Modify as ModifyReply, Lookup as LookupReply, Refused}
 use Rattle.drawn_names.specs.Drawing.{words_drawn, names_of}
@@ -25,5 +25,7 @@ reply_from (part.Lookup user scope key names) f (answer.Lookup records) =
     LookupReply (record { zone = key; numbers_as_strings = f.numbers_as_strings; entries = map (found_entry f.desired_keys) (zip names records) })
 reply_from (part.Modify user scope key atomic ops moment words) f (answer.Lookup records) = Refused ZoneNotFound
 reply_from (part.Modify user scope key atomic ops moment words) f answer.NoZone = Refused ZoneNotFound
+reply_from (part.Modify user scope key atomic ops moment words) f answer.StoreFailed = Refused TryAgainLater
 reply_from (part.Lookup user scope key names) f (answer.Modify outcomes) = Refused ZoneNotFound
 reply_from (part.Lookup user scope key names) f answer.NoZone = Refused ZoneNotFound
+reply_from (part.Lookup user scope key names) f answer.StoreFailed = Refused TryAgainLater

@@ -93,7 +93,7 @@ fn ask_all<B: Board>(
         event: answered.event,
     })
     .unwrap();
-    reply_from(alloc, &asking.part, &asking.options, &answered.answer)
+    reply_from(alloc, &asking.part, &asking.options, answered.answer)
 }
 
 // Asks the board, and marks the request with the asks that were whole. The room of the mark is made before.

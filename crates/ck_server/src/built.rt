@@ -4,7 +4,7 @@ ghost use Rattle.std.specs.List.{list_all};
 ghost use Rattle.record_model.specs.declared.value.RefTo.{RefTo};
 ghost use Rattle.record_model.specs.declared.value.Value.{Value as SeenValue, out-Value};
 ghost use Rattle.zone_model.specs.Options.{is_none_or};
-ghost use Rattle.zone_model.specs.PlainCreates.{gives_no_parent, gives_no_share, only_names, has_plain_references, is_plain_draft, is_plain_create};
+ghost use Rattle.plain_creates.specs.PlainCreates.{gives_no_parent, gives_no_share, only_names, has_plain_references, is_plain_draft, is_plain_create};
 ghost use Rattle.zone_model.specs.References.{single_references};
 ghost use Rattle.talk_model.specs.Requests.{is_built_operation, is_built_route, is_built};
 

@@ -1,11 +1,11 @@
 // Replies to calls, from their answers.
-ghost use Rattle.std.specs.Prelude.{◌≡◌, IfOk, map, zip};
+ghost use Rattle.std.specs.Prelude.{◌≡◌, IfOk, map, reverse, zip};
 ghost use Rattle.talk_model.specs.Calls.{error_of, entry_of, shown, found_entry};
 ghost use Rattle.ck_server.specs.ReplyOptions.{HasMeantOps, reply_from};
 
 use board_model::{Answer, Part};
 use ck_base::{Items, NoMemory, RecordName, RecordNames, ZoneKey};
-use ck_records::{Record, copy_record, cut};
+use ck_records::{Record, cut};
 use error_replies::ServerError;
 use modify_ops::names_of;
 use std::alloc::Global;
@@ -33,29 +33,37 @@ fn error_of(fault: OpFault) -> ServerError
     }
 }
 
-fn outcome_entry(
-    alloc: Global,
-    name: &RecordName,
-    outcome: &Outcome,
-) -> Result<RecordEntry, NoMemory>
-    ensures { IfOk result (λ entry. entry ≡ entry_of (name.now, outcome.now)) }
+// The items from the last to the first.
+fn turned<T: Drop>(alloc: Global, items: Items<T>) -> Result<Items<T>, NoMemory>
+    ensures { IfOk result (λ turned. turned ≡ reverse items) }
+{
+    let mut rest = items;
+    let mut turned = Items::new(alloc);
+    while let Some(item) = rest.pop() {
+        turned.push(item)?;
+    }
+    Ok(turned)
+}
+
+fn outcome_entry(name: &RecordName, outcome: Outcome) -> Result<RecordEntry, NoMemory>
+    ensures { IfOk result (λ entry. entry ≡ entry_of (name.now, outcome)) }
 {
     match outcome {
-        Outcome::Put(record) => Ok(RecordEntry::There(copy_record(alloc, record)?)),
-        Outcome::Deleted(gone) => Ok(RecordEntry::Gone(gone.clone()?)),
+        Outcome::Put(record) => Ok(RecordEntry::There(record)),
+        Outcome::Deleted(gone) => Ok(RecordEntry::Gone(gone)),
         Outcome::Refused {
             fault,
             server: None,
         } => Ok(RecordEntry::Failed {
-            error: error_of(*fault),
+            error: error_of(fault),
             name: name.clone()?,
         }),
         Outcome::Refused {
-            server: Some(record),
+            server: Some(server),
             ..
         } => Ok(RecordEntry::Conflict {
             name: name.clone()?,
-            server: copy_record(alloc, record)?,
+            server,
         }),
     }
 }
@@ -63,23 +71,27 @@ fn outcome_entry(
 fn outcome_entries(
     alloc: Global,
     names: &[RecordName],
-    outcomes: &[Outcome],
+    outcomes: Items<Outcome>,
 ) -> Result<RecordEntries, NoMemory>
-    ensures { IfOk result (λ entries. entries ≡ map entry_of (zip names.now outcomes.now)) }
+    ensures { IfOk result (λ entries. entries ≡ map entry_of (zip names.now outcomes)) }
 {
-    let mut entries = Vec::new(alloc);
-    for (name, outcome) in names.iter().zip(outcomes) {
-        entries.push(outcome_entry(alloc, name, outcome)?)?;
+    let mut rest = turned(alloc, outcomes)?;
+    let mut entries = Items::new(alloc);
+    for name in names {
+        let Some(outcome) = rest.pop() else {
+            return Ok(entries);
+        };
+        entries.push(outcome_entry(name, outcome)?)?;
     }
-    Ok(Items::from_vec(entries))
+    Ok(entries)
 }
 
-fn shown(alloc: Global, keys: &Option<RecordNames>, found: &Record) -> Result<Record, NoMemory>
-    ensures { IfOk result (λ copy. copy ≡ shown keys.now found.now) }
+fn shown(alloc: Global, keys: &Option<RecordNames>, found: Record) -> Result<Record, NoMemory>
+    ensures { IfOk result (λ kept. kept ≡ shown keys.now found) }
 {
     match keys {
-        Some(keys) => cut(alloc, found, keys.as_slice()),
-        None => copy_record(alloc, found),
+        Some(keys) => cut(alloc, &found, keys.as_slice()),
+        None => Ok(found),
     }
 }
 
@@ -87,9 +99,9 @@ fn lookup_entry(
     alloc: Global,
     keys: &Option<RecordNames>,
     name: &RecordName,
-    found: &Option<Record>,
+    found: Option<Record>,
 ) -> Result<RecordEntry, NoMemory>
-    ensures { IfOk result (λ entry. entry ≡ found_entry keys.now (name.now, found.now)) }
+    ensures { IfOk result (λ entry. entry ≡ found_entry keys.now (name.now, found)) }
 {
     match found {
         Some(record) => Ok(RecordEntry::There(shown(alloc, keys, record)?)),
@@ -104,15 +116,19 @@ fn lookup_entries(
     alloc: Global,
     keys: &Option<RecordNames>,
     names: &[RecordName],
-    records: &[Option<Record>],
+    records: Items<Option<Record>>,
 ) -> Result<RecordEntries, NoMemory>
-    ensures { IfOk result (λ entries. entries ≡ map (found_entry keys.now) (zip names.now records.now)) }
+    ensures { IfOk result (λ entries. entries ≡ map (found_entry keys.now) (zip names.now records)) }
 {
-    let mut entries = Vec::new(alloc);
-    for (name, record) in names.iter().zip(records) {
-        entries.push(lookup_entry(alloc, keys, name, record)?)?;
+    let mut rest = turned(alloc, records)?;
+    let mut entries = Items::new(alloc);
+    for name in names {
+        let Some(found) = rest.pop() else {
+            return Ok(entries);
+        };
+        entries.push(lookup_entry(alloc, keys, name, found)?)?;
     }
-    Ok(Items::from_vec(entries))
+    Ok(entries)
 }
 
 fn records_reply(
@@ -134,10 +150,10 @@ pub(crate) fn reply_from(
     alloc: Global,
     part: &Part,
     options: &ReplyOptions,
-    answer: &Answer,
+    answer: Answer,
 ) -> Result<Reply, NoMemory>
     requires { HasMeantOps part.now }
-    ensures { IfOk result (λ reply. reply ≡ reply_from part.now options.now answer.now) }
+    ensures { IfOk result (λ reply. reply ≡ reply_from part.now options.now answer) }
 {
     match part {
         Part::Modify {
@@ -148,18 +164,20 @@ pub(crate) fn reply_from(
         } => match answer {
             Answer::Modify(outcomes) => {
                 let names = names_of(alloc, ops.as_slice(), words.as_slice())?;
-                let entries = outcome_entries(alloc, names.as_slice(), outcomes.as_slice())?;
+                let entries = outcome_entries(alloc, names.as_slice(), outcomes)?;
                 Ok(Reply::Modify(records_reply(key, options, entries)?))
             }
             Answer::Lookup(_) | Answer::NoZone => Ok(Reply::Refused(ServerError::ZoneNotFound)),
+            Answer::StoreFailed => Ok(Reply::Refused(ServerError::TryAgainLater)),
         },
         Part::Lookup { key, names, .. } => match answer {
             Answer::Lookup(records) => {
                 let keys = &options.desired_keys;
-                let entries = lookup_entries(alloc, keys, names.as_slice(), records.as_slice())?;
+                let entries = lookup_entries(alloc, keys, names.as_slice(), records)?;
                 Ok(Reply::Lookup(records_reply(key, options, entries)?))
             }
             Answer::Modify(_) | Answer::NoZone => Ok(Reply::Refused(ServerError::ZoneNotFound)),
+            Answer::StoreFailed => Ok(Reply::Refused(ServerError::TryAgainLater)),
         },
     }
 }

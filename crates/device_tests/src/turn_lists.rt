@@ -26,8 +26,6 @@ impl Grows for TurnList {
 
     ghost seat_of = { λ turn. turn.seat };
 
-    ghost label = { λ _. 0 };
-
     fn len(&self) -> u64 {
         self.turns.len() as u64
     }

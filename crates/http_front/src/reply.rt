@@ -1,5 +1,5 @@
 // Replies to a sink.
-ghost use Rattle.std.specs.Prelude.{◌≡◌, ◌≤◌, ◌++◌, string_bytes, length, IfOk, OnOk, OnErr, IsErrOf};
+ghost use Rattle.std.specs.Prelude.{◌≡◌, ◌≤◌, ◌++◌, string_bytes, length, IfOk, OnOk, IsErrOf};
 ghost use Rattle.std.specs.Io.KnownBytes.{Appends};
 ghost use Rattle.ck_devices.specs.Causes.{Rose};
 ghost use Rattle.ck_devices.specs.Fronts.{WritesFront};
@@ -91,8 +91,9 @@ fn reply_head(alloc: Global, status: u16, size: usize, close: bool) -> Result<St
 }
 
 /// Writes a reply with that status and a JSON body, as RFC 9112, section 4 forms it, and says with
-/// `close` that the connection is to be closed. After a fault a front of it was written.
-#[tactic(auto, using(crate::proofs::ReplyLemmas::front_none, ck_devices::proofs::Streams::appends_on))]
+/// `close` that the connection is to be closed. After a fault of the sink a front of it was written, and not all. Where memory ran out
+/// nothing was.
+#[tactic(auto, using(ck_devices::proofs::Streams::appends_on))]
 pub fn write_reply<W: Sink>(
     alloc: Global,
     sink: &mut W,
@@ -102,7 +103,8 @@ pub fn write_reply<W: Sink>(
 ) -> Result<(), WriteFault>
     requires { IsStatus status }
     ensures ok { OnOk result (Appends (W.held sink.old) (W.held sink.new) (reply_text status body.now close)) }
-    ensures err { OnErr result (WritesFront (W.held sink.old) (W.held sink.new) (reply_text status body.now close)) }
+    ensures front { IsErrOf result WriteFault.Failed → WritesFront (W.held sink.old) (W.held sink.new) (reply_text status body.now close) }
+    ensures spared { IsErrOf result WriteFault.NoMemory → sink.new ≡ sink.old }
     ensures later { W.fault_count sink.old ≤ W.fault_count sink.new }
     ensures cause { IsErrOf result WriteFault.Failed → Rose (W.fault_count sink.old) (W.fault_count sink.new) }
 {

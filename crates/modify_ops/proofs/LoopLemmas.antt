@@ -1,8 +1,9 @@
 -- Loops over operations.
-use Rattle.std.proofs.Common.{◌≡◌, ℕ, suc, ◌+◌, ◌<◌, ◌≤◌, List, [], ◌∷◌, ◌++◌, length, take, drop, get_or, map, None, Some, refl, sym, ap, ◌∙◌, append_assoc, arith}
+use Rattle.std.proofs.Common.{◌≡◌, ℕ, zero, suc, ◌+◌, ◌-◌, ◌<◌, ◌≤◌, List, [], ◌∷◌, ◌++◌, length, take, drop, get_or, map, Option, None, Some, option_and_then, refl, sym, ap, subst, ◌∙◌, append_assoc, arith}
 use Rattle.std.specs.Prelude.{Result, Ok, Err, ok_or}
 use Rattle.std.specs.Option.{option_or}
-use Rattle.std.proofs.lemmas.List.{drop_more, take_more, drop_all, length-append}
+use Rattle.std.proofs.lemmas.List.{drop_more, take_more, length-append}
+use Rattle.std.proofs.lemmas.Option.{slice_get_read}
 use Rattle.serde_json.specs.View.{view}
 use Rattle.serde_json.specs.declared.value.Value.{Value as Json}
 use Rattle.ck_base.specs.declared.key.ZoneKey.{ZoneKey}
@@ -11,27 +12,47 @@ use Rattle.zone_model.specs.declared.operations.Op.{Op}
 use Rattle.modify_ops.specs.declared.fault.BadOps.{BadOps}
 use Rattle.modify_ops.specs.declared.fault.BadOps.TheVariants.{BadOp}
 use Rattle.modify_ops.specs.Forms.{op_of, ops_from}
-use Rattle.zone_model.specs.GivenNames.{again, first_again, named_again}
+use Rattle.zone_model.specs.GivenNames.{again, again_at, first_of, named_again}
 
 -- ---- names that come again
 
+module _ {A : Type 0} where
+  none_before : (o p : Option A) → option_or o p ≡ None → o ≡ None
+  none_before None p none = refl
+  none_before (Some x) p none = absurd (cc none)
+
+  -- where so many places have nothing, fewer have nothing
+  none_of_fewer : (at : ℕ → Option A) (more n m : ℕ) → m ≡ n + more → first_of at m ≡ None → first_of at n ≡ None
+  none_of_fewer at zero n m is none = let same : m ≡ n = omega (arith, is) in subst (λ k. first_of at k ≡ None) same none
+  none_of_fewer at (suc more) n zero is none = let no : ⊥ = omega (arith, is) in absurd no
+  none_of_fewer at (suc more) n (suc m) is none = none_of_fewer at more n m (omega (arith, is)) (none_before (first_of at m) (at m) none)
+
+  -- more places change nothing
+  first_of_more : (at : ℕ → Option A) (more n m : ℕ) (x : A) → m ≡ n + more → first_of at n ≡ Some x → first_of at m ≡ Some x
+  first_of_more at zero n m x is first = let same : n ≡ m = omega (arith, is) in subst (λ k. first_of at k ≡ Some x) same first
+  first_of_more at (suc more) n zero x is first = let no : ⊥ = omega (arith, is) in absurd no
+  first_of_more at (suc more) n (suc m) x is first = rw (first_of_more at more n m x (omega (arith, is)) first) refl
+
 module _ (ops : List Op) (i : ℕ) (op : Op) (within : i < length ops) (at : op ≡ get_or ops i op) where
-  next : first_again (take i ops) (drop i ops) ≡ option_or (again (take i ops) op) (first_again (take i ops ++ op ∷ []) (drop (i + 1) ops))
-  next = ap (first_again (take i ops)) (drop_more ops i op within ∙ ap (λ x. x ∷ drop (i + 1) ops) (sym at))
+  next : again_at ops i ≡ again (take i ops) op
+  next = ap (option_and_then (again (take i ops))) (slice_get_read ops (length ops) i op refl within at)
 
   -- the next operation names one again
-  pub again_here : (name : List ℕ) → again (take i ops) op ≡ Some name → named_again ops ≡ first_again (take i ops) (drop i ops) → named_again ops ≡ Some name
-  again_here name is so_far = so_far ∙ next ∙ ap (λ o. option_or o (first_again (take i ops ++ op ∷ []) (drop (i + 1) ops))) is
+  pub again_here : (name : List ℕ) → again (take i ops) op ≡ Some name → first_of (again_at ops) i ≡ None → named_again ops ≡ Some name
+  again_here name is so_far =
+      let here : first_of (again_at ops) (suc i) ≡ Some name = rw (so_far, next) is in
+      first_of_more (again_at ops) (length ops - suc i) (suc i) (length ops) name (omega (arith, within)) here
 
   -- it names none again
-  pub again_later : again (take i ops) op ≡ None → named_again ops ≡ first_again (take i ops) (drop i ops) → named_again ops ≡ first_again (take (i + 1) ops) (drop (i + 1) ops)
+  pub again_later : again (take i ops) op ≡ None → first_of (again_at ops) i ≡ None → first_of (again_at ops) (i + 1) ≡ None
   again_later is so_far =
-      let one_more : take (i + 1) ops ≡ take i ops ++ op ∷ [] = take_more ops i op within ∙ ap (λ x. take i ops ++ x ∷ []) (sym at) in
-      so_far ∙ next ∙ ap (λ o. option_or o (first_again (take i ops ++ op ∷ []) (drop (i + 1) ops))) is
-      ∙ ap (λ xs. first_again xs (drop (i + 1) ops)) (sym one_more)
+      let later : first_of (again_at ops) (suc i) ≡ None = rw (so_far, next) is in
+      let one : suc i ≡ i + 1 = omega arith in
+      subst (λ n. first_of (again_at ops) n ≡ None) one later
 
-pub never_again : (ops : List Op) (i : ℕ) → length ops ≤ i → named_again ops ≡ first_again (take i ops) (drop i ops) → named_again ops ≡ None
-never_again ops i past so_far = so_far ∙ ap (first_again (take i ops)) (drop_all i ops past)
+pub never_again : (ops : List Op) (i : ℕ) → length ops ≤ i → first_of (again_at ops) i ≡ None → named_again ops ≡ None
+never_again ops i past so_far =
+    none_of_fewer (again_at ops) (i - length ops) (length ops) i (omega (arith, past)) so_far
 
 -- ---- reading one after another
 

@@ -10,3 +10,5 @@ pub mod MarkLemmas
 pub mod AloneLemmas
 -- one more ask, on any board
 pub mod TurnLemmas
+-- the methods of operations
+pub mod MethodLemmas

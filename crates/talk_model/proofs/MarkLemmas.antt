@@ -1,17 +1,18 @@
 -- One more mark at the end.
-use Rattle.std.proofs.Common.{◌≡◌, ℕ, suc, ◌+◌, ◌≤◌, ◌==◌, Bool, true, false, length-append, List, [], ◌∷◌, ◌++◌, length, refl, sym, ap, subst, ◌∙◌, arith, append_assoc, Option}
-use Rattle.std.proofs.lemmas.List.{append-nil}
+use Rattle.std.proofs.Common.{◌≡◌, ℕ, suc, ◌+◌, ◌≤◌, ◌==◌, Bool, true, false, length-append, List, [], ◌∷◌, ◌++◌, length, map, refl, sym, ap, subst, ◌∙◌, arith, append_assoc}
+use Rattle.std.proofs.lemmas.List.{append-nil, map-append}
 use Rattle.std.specs.Prelude.{filter, if◌then◌else◌}
 use Rattle.std.proofs.lemmas.List.Elements.{filter-append}
 use Rattle.std.specs.List.{AllByRecursion, AllZip, concat}
 use Rattle.zone_model.specs.declared.events.Event.{Event}
 use Rattle.zone_model.specs.Histories.{Histories}
+use Rattle.board_model.specs.Turns.{BoardState}
 use Rattle.talk_model.specs.declared.marks.At.{At}
 use Rattle.talk_model.specs.declared.marks.Mark.{Mark}
 use Rattle.talk_model.specs.Requests.{Meaning}
 use Rattle.talk_model.specs.Given.{given_of, givens_of}
 use Rattle.talk_model.specs.Calls.{Step, asks, replies, step_for, IsReply}
-use Rattle.talk_model.specs.Marks.{answer_at, AreAtsOf, step_behind, IsMarkOf, AreMarksOf, asks_in, NotBefore, AreInOrder, marked_by, marked, asks_at}
+use Rattle.talk_model.specs.Marks.{answer_at, AreAtsOf, step_behind, IsMarkOf, AreMarksOf, asks_in, NotBefore, AreInOrder, marked_by, marked, lengths_at}
 use Rattle.talk_model.specs.Talk.{reply_at, talk}
 
 pub all-snoc : {X : Type 0} (P : X → Type 0) (xs : List X) (x : X) → AllByRecursion P xs → P x → AllByRecursion P (xs ++ x ∷ [])
@@ -48,48 +49,50 @@ pub order-snoc : (ats : List At) (at : At) → AreInOrder ats → AllByRecursion
 order-snoc [] at ordered all = (tt, tt)
 order-snoc (a ∷ ats) at ordered all = (all-snoc (NotBefore a) ats at ordered.0 all.0, order-snoc ats at ordered.1 all.1)
 
-pub marked-snoc : (lock : ℕ) (events : List Event) (ats : List At) (at : At) → marked lock events (ats ++ at ∷ []) ≡ marked lock events ats ++ marked_by lock events at
-marked-snoc lock events [] at = append-nil (marked_by lock events at)
-marked-snoc lock events (a ∷ ats) at =
-    ap (λ l. marked_by lock events a ++ l) (marked-snoc lock events ats at) ∙ sym (append_assoc (marked_by lock events a) (marked lock events ats) (marked_by lock events at))
+pub marked-snoc : (lock : ℕ) (h : Histories Event) (ats : List At) (at : At) → marked lock h (ats ++ at ∷ []) ≡ marked lock h ats ++ marked_by lock h at
+marked-snoc lock h [] at = append-nil (marked_by lock h at)
+marked-snoc lock h (a ∷ ats) at =
+    ap (λ l. marked_by lock h a ++ l) (marked-snoc lock h ats at) ∙ sym (append_assoc (marked_by lock h a) (marked lock h ats) (marked_by lock h at))
 
 -- one more ask of a lock, or of another
-pub asks_at-snoc : (lock : ℕ) (ats : List At) (at : At) → asks_at lock (ats ++ at ∷ []) ≡ asks_at lock ats + (if at.lock == lock then 1 else 0)
-asks_at-snoc lock ats at = ap length (filter-append (λ (a : At). a.lock == lock) ats (at ∷ [])) ∙ (length-append (filter (λ (a : At). a.lock == lock) ats) (filter (λ (a : At). a.lock == lock) (at ∷ [])) ∙ ap (λ n. asks_at lock ats + n) (by_lock (at.lock == lock) refl))
+pub lengths_at-snoc : (lock : ℕ) (ats : List At) (at : At) → lengths_at lock (ats ++ at ∷ []) ≡ lengths_at lock ats ++ (if at.lock == lock then at.len ∷ [] else [])
+lengths_at-snoc lock ats at =
+    ap (map (λ (a : At). a.len)) (filter-append (λ (a : At). a.lock == lock) ats (at ∷ []))
+    ∙ (map-append (λ (a : At). a.len) (filter (λ (a : At). a.lock == lock) ats) (filter (λ (a : At). a.lock == lock) (at ∷ [])) ∙ ap (λ l. lengths_at lock ats ++ l) (by_lock (at.lock == lock) refl))
   where
-    by_lock : (b : Bool) → (at.lock == lock) ≡ b → length (filter (λ (a : At). a.lock == lock) (at ∷ [])) ≡ (if at.lock == lock then 1 else 0)
+    by_lock : (b : Bool) → (at.lock == lock) ≡ b → map (λ (a : At). a.len) (filter (λ (a : At). a.lock == lock) (at ∷ [])) ≡ (if at.lock == lock then at.len ∷ [] else [])
     by_lock true is = rw is refl
     by_lock false is = rw is refl
 
-module _ (seats : ℕ → Option ℕ) (entry h : Histories Event) where
+module _ (entry b : BoardState) where
   pub marks-snoc : (number last : ℕ) (marks : List Mark) (ws : List Meaning) (m : Mark) (w : Meaning) → last ≡ number + length marks
-      → AreMarksOf seats number entry h marks ws → IsMarkOf seats last entry h m w → IsReply (step_behind h m w) → AreMarksOf seats number entry h (marks ++ m ∷ []) (ws ++ w ∷ [])
-  marks-snoc number last [] [] m w e k p whole = let same : last ≡ number = omega arith in (subst (λ (n : ℕ). IsMarkOf seats n entry h m w) same p, whole, tt)
+      → AreMarksOf number entry b marks ws → IsMarkOf last entry b m w → IsReply (step_behind b.histories m w) → AreMarksOf number entry b (marks ++ m ∷ []) (ws ++ w ∷ [])
+  marks-snoc number last [] [] m w e k p whole = let same : last ≡ number = omega arith in (subst (λ (n : ℕ). IsMarkOf n entry b m w) same p, whole, tt)
   marks-snoc number last [] (v ∷ ws) m w e k p whole = absurd k
   marks-snoc number last (a ∷ marks) [] m w e k p whole = absurd k
   marks-snoc number last (a ∷ marks) (v ∷ ws) m w e k p whole = (k.0, k.1, marks-snoc (suc number) last marks ws m w (omega arith) k.2 p whole)
 
   pub talk-snoc : (number : ℕ) (marks : List Mark) (ws : List Meaning) (m : Mark) (w : Meaning)
-      → AreMarksOf seats number entry h marks ws → talk (ws ++ w ∷ []) (marks ++ m ∷ []) h ≡ talk ws marks h ++ reply_at h m w
-  talk-snoc number [] [] m w k = append-nil (reply_at h m w)
+      → AreMarksOf number entry b marks ws → talk (ws ++ w ∷ []) (marks ++ m ∷ []) b.histories ≡ talk ws marks b.histories ++ reply_at b.histories m w
+  talk-snoc number [] [] m w k = append-nil (reply_at b.histories m w)
   talk-snoc number [] (v ∷ ws) m w k = absurd k
   talk-snoc number (a ∷ marks) [] m w k = absurd k
-  talk-snoc number (a ∷ marks) (v ∷ ws) m w k = ap (λ t. reply_at h a v ++ t) (talk-snoc (suc number) marks ws m w k.2) ∙ sym (append_assoc (reply_at h a v) (talk ws marks h) (reply_at h m w))
+  talk-snoc number (a ∷ marks) (v ∷ ws) m w k = ap (λ t. reply_at b.histories a v ++ t) (talk-snoc (suc number) marks ws m w k.2) ∙ sym (append_assoc (reply_at b.histories a v) (talk ws marks b.histories) (reply_at b.histories m w))
 
   -- as many marks as requests
-  pub marks-length : (number : ℕ) (marks : List Mark) (ws : List Meaning) → AreMarksOf seats number entry h marks ws → length marks ≡ length ws
+  pub marks-length : (number : ℕ) (marks : List Mark) (ws : List Meaning) → AreMarksOf number entry b marks ws → length marks ≡ length ws
   marks-length number [] [] k = refl
   marks-length number [] (w ∷ ws) k = absurd k
   marks-length number (m ∷ marks) [] k = absurd k
   marks-length number (m ∷ marks) (w ∷ ws) k = ap suc (marks-length (suc number) marks ws k.2)
 
-  pub ats-within : (ats : List At) (step : Step) → AreAtsOf seats entry h ats step → AllByRecursion (λ (at : At). at.len ≤ length (h at.lock)) ats
+  pub ats-within : (ats : List At) (step : Step) → AreAtsOf entry b ats step → AllByRecursion (λ (at : At). at.len ≤ length (b.histories at.lock)) ats
   ats-within [] step k = tt
-  ats-within (at ∷ ats) (asks a next) k = ((k.0).within, ats-within ats (next (answer_at h at a)) k.1)
+  ats-within (at ∷ ats) (asks a next) k = ((k.0).within, ats-within ats (next (answer_at b.histories at a)) k.1)
   ats-within (at ∷ ats) (replies r) k = absurd k
 
   -- each ask of the marks lies within the histories
-  pub marks-within : (number : ℕ) (marks : List Mark) (ws : List Meaning) → AreMarksOf seats number entry h marks ws → AllByRecursion (λ (at : At). at.len ≤ length (h at.lock)) (asks_in marks)
+  pub marks-within : (number : ℕ) (marks : List Mark) (ws : List Meaning) → AreMarksOf number entry b marks ws → AllByRecursion (λ (at : At). at.len ≤ length (b.histories at.lock)) (asks_in marks)
   marks-within number [] ws k = tt
   marks-within number (m ∷ marks) [] k = absurd k
   marks-within number (m ∷ marks) (w ∷ ws) k = all-append _ m.asks.items (asks_in marks) (ats-within m.asks.items (step_for w.want (given_of m)) (k.0).asks) (marks-within (suc number) marks ws k.2)

@@ -13,12 +13,15 @@ use Rattle.zone_model.specs.Histories.{Histories, IsFront, Grows}
 use Rattle.zone_model.specs.Events.{origin_of, own, own_of}
 use Rattle.board_model.specs.declared.parts.Part.{Part}
 use Rattle.board_model.specs.declared.answers.Answered.{Answered}
-use Rattle.board_model.specs.Asks.{event_of, made, makes, commits_by}
-use Rattle.board_model.specs.Turns.{BoardState, HadTurn, IsAsked}
+use Rattle.board_model.specs.declared.answers.Answer.{Answer}
+use Rattle.board_model.specs.Asks.{Append, stored, failed, sight, answer, event_of, made, makes, commits_by, append_in, told}
+use Rattle.board_model.specs.Turns.{BoardState, HadTurn, HadAsk, IsAsked}
 use Rattle.talk_model.specs.declared.marks.At.{At}
-use Rattle.talk_model.specs.Marks.{SeatsStay, base_of, IsAtOf, NotBefore, marked_by, marked, OwnAreMarked, asks_at, TurnsAreMarked}
+use Rattle.talk_model.specs.Marks.{IsLater, base_of, event_at, answer_at, IsAtOf, NotBefore, marked_by, marked, OwnAreMarked, lengths_at, TurnsAreMarked}
+use Rattle.talk_model.specs.Calls.{Ask}
+use Rattle.talk_model.specs.Alone.{Storing, WentSo, made_alone, answer_alone}
 use Rattle.talk_model.proofs.GrowthLemmas.{front-length, marked-grown}
-use Rattle.talk_model.proofs.MarkLemmas.{marked-snoc, asks_at-snoc}
+use Rattle.talk_model.proofs.MarkLemmas.{marked-snoc, lengths_at-snoc}
 
 own-append : (n : ℕ) (xs ys : List Event) → own n (xs ++ ys) ≡ own n xs ++ own n ys
 own-append n xs ys = filter-append (λ (e : Event). nat_eq (origin_of e).seat n) xs ys
@@ -40,14 +43,23 @@ some_is : (m n : ℕ) → Some m ≡ Some n → m ≡ n
 some_is m n e = ap (λ (o : Option ℕ). unwrap_or o 0) e
 
 -- what is made is one event or none
-made-length : (seat : ℕ) (base : List Event) (cs : List Commit) → length (event_of seat base cs) ≡ (if makes cs then 1 else 0)
-made-length seat base [] = refl
-made-length seat base (c ∷ cs) = refl
+made-length : (append : Append) (seat : ℕ) (base : List Event) (cs : List Commit) → length (event_of append seat base cs) ≡ (if makes cs then 1 else 0)
+made-length append seat base [] = refl
+made-length stored seat base (c ∷ cs) = refl
+made-length (failed from to) seat base (c ∷ cs) = refl
 
 -- what is made is the seat's own
-own-made : (seat : ℕ) (base : List Event) (cs : List Commit) → own seat (event_of seat base cs) ≡ event_of seat base cs
-own-made seat base [] = refl
-own-made seat base (c ∷ cs) = rw (eq-eqb seat seat refl) refl
+own-made : (append : Append) (seat : ℕ) (base : List Event) (cs : List Commit) → own seat (event_of append seat base cs) ≡ event_of append seat base cs
+own-made append seat base [] = refl
+own-made stored seat base (c ∷ cs) = rw (eq-eqb seat seat refl) refl
+own-made (failed from to) seat base (c ∷ cs) = rw (eq-eqb seat seat refl) refl
+
+-- where something is made, it tells what became of its append
+same-made : (append other : Append) (seat : ℕ) (base : List Event) (cs : List Commit) (more : List Event)
+    → (0 < length (event_of append seat base cs) → other ≡ append_in (event_of append seat base cs ++ more)) → event_of other seat base cs ≡ event_of append seat base cs
+same-made append other seat base [] more e = refl
+same-made stored other seat base (c ∷ cs) more e = ap (λ a. event_of a seat base (c ∷ cs)) (e (omega arith))
+same-made (failed from to) other seat base (c ∷ cs) more e = ap (λ a. event_of a seat base (c ∷ cs)) (e (omega arith))
 
 module _ (old new : BoardState) (lock : ℕ) where
   abbrev h : Histories Event
@@ -57,15 +69,24 @@ module _ (old new : BoardState) (lock : ℕ) where
   h2 = new.histories
 
   module _ (t : HadTurn old new lock) where
-    pub turn_front : Grows h h2
+    turn_front : Grows h h2
     turn_front k = dite (ℕ_discrete k lock)
         (λ e. subst (λ j. IsFront (h j) (h2 j)) (sym e) (record { more = t.later ++ t.added; grown = t.new_is ∙ (ap (λ l. l ++ t.added) t.found ∙ append_assoc (h lock) t.later t.added) }))
         (λ ne. record { more = []; grown = (t.others k ne).history ∙ sym (append-nil (h k)) })
 
-    pub turn_stays : SeatsStay old.seats new.seats
+    turn_stays : (k n : ℕ) → old.seats k ≡ Some n → new.seats k ≡ Some n
     turn_stays k n e = dite (ℕ_discrete k lock)
         (λ same. ap new.seats same ∙ (t.sits ∙ ap (λ m. Some m) (sym (t.stays n (ap old.seats (sym same) ∙ e)))))
         (λ ne. (t.others k ne).seat ∙ e)
+
+    turn_rises : (k : ℕ) → old.faults k ≤ new.faults k
+    turn_rises k = dite (ℕ_discrete k lock)
+        (λ same. subst (λ j. old.faults j ≤ new.faults j) (sym same) (omega (arith, t.since, t.until)))
+        (λ ne. omega (arith, (t.others k ne).faults))
+
+    -- a board after its turn is what it was later on
+    pub turn_later : IsLater old new
+    turn_later = record { grown = turn_front; stays = turn_stays; risen = turn_rises; still = t.still }
 
     -- the own events of a turn are those that it added
     pub own_at : (l : ℕ) → l ≤ length (h lock) → own t.seat t.added ≡ t.added → own_of (new.seats lock) (drop l (h2 lock)) ≡ own_of (old.seats lock) (drop l (h lock)) ++ t.added
@@ -83,28 +104,56 @@ module _ (old new : BoardState) (lock : ℕ) where
         before None is = no_own-drop t.seat l (h lock) (left_nil (own t.seat (h lock)) (own t.seat t.later) (sym (own-append t.seat (h lock) t.later) ∙ (ap (own t.seat) (sym t.found) ∙ t.fresh is))) ∙ ap (λ s. own_of s (drop l (h lock))) (sym is)
 
   module _ (part : Part) (answered : Answered) (k : IsAsked old new lock part answered) where
-    turn : HadTurn old new lock
-    turn = k.turn
+    abbrev t : HadTurn old new lock
+    t = (k.had).turn
+
+    abbrev its_commits : List Commit
+    its_commits = commits_by lock t.base part
+
+    abbrev its_ask : Ask
+    its_ask = record { lock = lock; part = part }
 
     -- the trace of the ask
     abbrev pub at_of : At
     at_of = record { lock = lock; len = answered.len; event = answered.event }
 
-    new_is : h2 lock ≡ (k.turn).base ++ made lock (k.turn).seat (k.turn).base part
-    new_is = (k.turn).new_is ∙ ap (λ a. (k.turn).base ++ a) k.added_is
+    new_is : h2 lock ≡ t.base ++ made (k.had).append lock t.seat t.base part
+    new_is = t.new_is ∙ ap (λ a. t.base ++ a) (k.had).added_is
 
-    size : answered.len ≡ length (k.turn).base + (if answered.event then 1 else 0)
-    size = k.len ∙ (ap length new_is ∙ (length-append (k.turn).base (made lock (k.turn).seat (k.turn).base part)
-        ∙ ap (λ n. length (k.turn).base + n) (made-length (k.turn).seat (k.turn).base (commits_by lock (k.turn).base part) ∙ ap (λ (b : Bool). if b then 1 else 0) (sym k.event))))
+    size : answered.len ≡ length t.base + (if answered.event then 1 else 0)
+    size = k.len ∙ (ap length new_is ∙ (length-append t.base (made (k.had).append lock t.seat t.base part)
+        ∙ ap (λ n. length t.base + n) (made-length (k.had).append t.seat t.base its_commits ∙ ap (λ (b : Bool). if b then 1 else 0) (sym k.event))))
 
     -- the base that the trace tells is what the ask found
-    pub base-asked : base_of h2 at_of ≡ (k.turn).base
+    base-asked : base_of h2 at_of ≡ t.base
     base-asked =
-        let shorter : answered.len - (if answered.event then 1 else 0) ≡ length (k.turn).base = omega (arith, size) in
-        ap (λ n. take n (h2 lock)) shorter ∙ (ap (take (length (k.turn).base)) new_is ∙ take_at (k.turn).base (made lock (k.turn).seat (k.turn).base part) (length (k.turn).base) refl)
+        let shorter : answered.len - (if answered.event then 1 else 0) ≡ length t.base = omega (arith, size) in
+        ap (λ n. take n (h2 lock)) shorter ∙ (ap (take (length t.base)) new_is ∙ take_at t.base (made (k.had).append lock t.seat t.base part) (length t.base) refl)
+
+    abbrev event_or : Bool → List Event
+    event_or b = if b then drop (answered.len - 1) (take answered.len (h2 lock)) else []
+
+    -- the event that it tells is what the ask added
+    event-asked : event_at h2 at_of ≡ t.added
+    event-asked = by_made its_commits refl
+      where
+        by_made : (cs : List Commit) → its_commits ≡ cs → event_or answered.event ≡ t.added
+        by_made [] is =
+            let none : t.added ≡ [] = (k.had).added_is ∙ ap (event_of (k.had).append t.seat t.base) is in
+            ap event_or (k.event ∙ ap makes is) ∙ sym none
+        by_made (c ∷ cs) is =
+            let event : answered.event ≡ true = k.event ∙ ap makes is in
+            let len : answered.len ≡ length t.base + 1 = size ∙ ap (λ (b : Bool). length t.base + (if b then 1 else 0)) event in
+            let before : answered.len - 1 ≡ length t.base = omega (arith, len) in
+            ap event_or event ∙ (ap (λ n. drop n (take answered.len (h2 lock))) before
+            ∙ (ap (drop (length t.base)) (take_all answered.len (h2 lock) (omega (arith, k.len)) ∙ t.new_is) ∙ drop-append_seam t.base t.added))
+
+    -- the answer that the trace tells is the one that was given
+    pub answer-asked : answer_at h2 at_of its_ask ≡ answered.answer
+    answer-asked = (λ i. told (event-asked i) (answer lock (sight lock (base-asked i) part) part)) ∙ sym k.answer_is
 
     room : length (h lock) + (if answered.event then 1 else 0) ≤ answered.len
-    room = omega (arith, size, ap length (k.turn).found, length-append (h lock) (k.turn).later)
+    room = omega (arith, size, ap length t.found, length-append (h lock) t.later)
 
     one_more : (n : ℕ) → n ≤ length (h lock) → answered.event ≡ true → n < answered.len
     one_more n le e = by_event answered.event room e
@@ -113,18 +162,20 @@ module _ (old new : BoardState) (lock : ℕ) where
         by_event true r e = omega (arith, le, r)
         by_event false r e = absurd (cc)
 
-    pub is_at : (entry : Histories Event) → Grows entry h → IsAtOf new.seats entry h2 at_of (record { lock = lock; part = part })
-    is_at entry grown =
-        let entered : length (entry lock) ≤ length (h lock) = front-length (entry lock) (h lock) (grown lock) in
+    pub is_at : (entry : BoardState) → IsLater entry old → IsAtOf entry new at_of its_ask
+    is_at entry later =
+        let entered : length (entry.histories lock) ≤ length (h lock) = front-length (entry.histories lock) (h lock) (later.grown lock) in
         record {
-          seat = (k.turn).seat;
-          sits = (k.turn).sits;
+          seat = t.seat;
+          append = (k.had).append;
+          sits = t.sits;
           lock = refl;
           since_entry = omega (arith, room, entered);
-          past_entry = one_more (length (entry lock)) entered;
+          past_entry = one_more (length (entry.histories lock)) entered;
           within = omega (arith, k.len);
           event = k.event ∙ ap (λ b. makes (commits_by lock b part)) (sym base-asked);
-          event_is = take_all answered.len (h2 lock) (omega (arith, k.len)) ∙ (new_is ∙ ap (λ (b : List Event). b ++ made lock (k.turn).seat b part) (sym base-asked));
+          event_is = take_all answered.len (h2 lock) (omega (arith, k.len)) ∙ (new_is ∙ ap (λ (b : List Event). b ++ made (k.had).append lock t.seat b part) (sym base-asked));
+          fault = (t.faults, new.faults lock, omega (arith, later.risen lock, t.since), omega arith, (k.had).fault);
         }
 
     -- an ask whose length lies within what was there stands before
@@ -133,63 +184,70 @@ module _ (old new : BoardState) (lock : ℕ) where
         let here : length (h b.lock) ≡ length (h lock) = ap (λ (l : ℕ). length (h l)) same in
         (omega (arith, room, seen, here), one_more b.len (omega (arith, seen, here)))
 
-    added_own : own (k.turn).seat (k.turn).added ≡ (k.turn).added
-    added_own = ap (own (k.turn).seat) k.added_is ∙ (own-made (k.turn).seat (k.turn).base (commits_by lock (k.turn).base part) ∙ sym k.added_is)
+    added_own : own t.seat t.added ≡ t.added
+    added_own = ap (own t.seat) (k.had).added_is ∙ (own-made (k.had).append t.seat t.base its_commits ∙ sym (k.had).added_is)
 
     -- the trace of the ask names what the ask added
-    names : marked_by lock (h2 lock) at_of ≡ (k.turn).added
-    names = rw (eq-eqb lock lock refl) (by_made (commits_by lock (k.turn).base part) refl)
-      where
-        by_made : (cs : List Commit) → commits_by lock (k.turn).base part ≡ cs → (if answered.event then drop (answered.len - 1) (take answered.len (h2 lock)) else []) ≡ (k.turn).added
-        by_made [] is =
-            let none : (k.turn).added ≡ [] = k.added_is ∙ ap (event_of (k.turn).seat (k.turn).base) is in
-            rw (k.event ∙ ap makes is) (sym none)
-        by_made (c ∷ cs) is =
-            let event : answered.event ≡ true = k.event ∙ ap makes is in
-            let len : answered.len ≡ length (k.turn).base + 1 = size ∙ ap (λ (b : Bool). length (k.turn).base + (if b then 1 else 0)) event in
-            let before : answered.len - 1 ≡ length (k.turn).base = omega (arith, len) in
-            rw event (ap (λ n. drop n (take answered.len (h2 lock))) before
-            ∙ (ap (drop (length (k.turn).base)) (take_all answered.len (h2 lock) (omega (arith, k.len)) ∙ (k.turn).new_is) ∙ drop-append_seam (k.turn).base (k.turn).added))
+    names : marked_by lock h2 at_of ≡ t.added
+    names = rw (eq-eqb lock lock refl) event-asked
 
     -- the own events beyond those at entry are the marked ones, with this ask's
-    pub own_more : (entry : Histories Event) (ats : List At) → Grows entry h → AllByRecursion (λ (at : At). at.len ≤ length (h at.lock)) ats → OwnAreMarked old.seats entry h ats
-        → OwnAreMarked new.seats entry h2 (ats ++ at_of ∷ [])
-    own_more entry ats grown within own_are j = dite (ℕ_discrete j lock) (λ e. subst (λ l. own_of (new.seats l) (drop (length (entry l)) (h2 l)) ≡ marked l (h2 l) (ats ++ at_of ∷ [])) (sym e) here) there
+    pub own_more : (entry : BoardState) (ats : List At) → IsLater entry old → AllByRecursion (λ (at : At). at.len ≤ length (h at.lock)) ats → OwnAreMarked entry old ats
+        → OwnAreMarked entry new (ats ++ at_of ∷ [])
+    own_more entry ats later within own_are j = dite (ℕ_discrete j lock) (λ e. subst (λ l. own_of (new.seats l) (drop (length (entry.histories l)) (h2 l)) ≡ marked l h2 (ats ++ at_of ∷ [])) (sym e) here) there
       where
-        here : own_of (new.seats lock) (drop (length (entry lock)) (h2 lock)) ≡ marked lock (h2 lock) (ats ++ at_of ∷ [])
+        here : own_of (new.seats lock) (drop (length (entry.histories lock)) (h2 lock)) ≡ marked lock h2 (ats ++ at_of ∷ [])
         here =
-            own_at (k.turn) (length (entry lock)) (front-length (entry lock) (h lock) (grown lock)) added_own
-            ∙ (ap (λ l. l ++ (k.turn).added) (own_are lock ∙ sym (marked-grown old.seats new.seats entry h h2 (turn_front (k.turn)) (turn_stays (k.turn)) lock ats within))
-            ∙ (ap (λ l. marked lock (h2 lock) ats ++ l) (sym names) ∙ sym (marked-snoc lock (h2 lock) ats at_of)))
+            own_at t (length (entry.histories lock)) (front-length (entry.histories lock) (h lock) (later.grown lock)) added_own
+            ∙ (ap (λ l. l ++ t.added) (own_are lock ∙ sym (marked-grown entry old new (turn_later t) lock ats within))
+            ∙ (ap (λ l. marked lock h2 ats ++ l) (sym names) ∙ sym (marked-snoc lock h2 ats at_of)))
 
-        there : j ≢ lock → own_of (new.seats j) (drop (length (entry j)) (h2 j)) ≡ marked j (h2 j) (ats ++ at_of ∷ [])
+        there : j ≢ lock → own_of (new.seats j) (drop (length (entry.histories j)) (h2 j)) ≡ marked j h2 (ats ++ at_of ∷ [])
         there ne =
             let other : nat_eq lock j ≡ false = ne_eqb lock j (λ e. ne (sym e)) in
-            let mine : own_of (new.seats j) (drop (length (entry j)) (h2 j)) ≡ own_of (old.seats j) (drop (length (entry j)) (h j)) = λ i. own_of (((k.turn).others j ne).seat i) (drop (length (entry j)) (((k.turn).others j ne).history i)) in
-            let ends : marked_by j (h2 j) at_of ≡ [] = rw other refl in
-            mine ∙ (own_are j ∙ (sym (marked-grown old.seats new.seats entry h h2 (turn_front (k.turn)) (turn_stays (k.turn)) j ats within)
-            ∙ (sym (append-nil (marked j (h2 j) ats)) ∙ (ap (λ l. marked j (h2 j) ats ++ l) (sym ends) ∙ sym (marked-snoc j (h2 j) ats at_of)))))
+            let mine : own_of (new.seats j) (drop (length (entry.histories j)) (h2 j)) ≡ own_of (old.seats j) (drop (length (entry.histories j)) (h j)) = λ i. own_of ((t.others j ne).seat i) (drop (length (entry.histories j)) ((t.others j ne).history i)) in
+            let ends : marked_by j h2 at_of ≡ [] = rw other refl in
+            mine ∙ (own_are j ∙ (sym (marked-grown entry old new (turn_later t) j ats within)
+            ∙ (sym (append-nil (marked j h2 ats)) ∙ (ap (λ l. marked j h2 ats ++ l) (sym ends) ∙ sym (marked-snoc j h2 ats at_of)))))
 
-    -- an alone board adds what is made at all that is there
-    pub lone_leaves : old.alone ≡ true → (k.turn).base ≡ h lock
-    lone_leaves lone = (k.turn).found ∙ (ap (λ l. h lock ++ l) ((k.turn).whole lone) ∙ append-nil (h lock))
+    -- an alone board adds what is made at all that is there, where the appends went as they did
+    module _ (lone : old.alone ≡ true) (sits : old.seats lock ≡ Some 0) (final : Histories Event) (on : IsFront (h2 lock) (final lock)) (storing : Storing) (went : WentSo storing final) where
+      base-alone : t.base ≡ h lock
+      base-alone = t.found ∙ (ap (λ l. h lock ++ l) (t.whole lone).0 ∙ append-nil (h lock))
 
-    pub lone_adds : (n : ℕ) → old.alone ≡ true → old.seats lock ≡ Some n → h2 lock ≡ h lock ++ made lock n (h lock) part
-    lone_adds n lone sits =
-        let seat_is : (k.turn).seat ≡ n = sym ((k.turn).stays n sits) in
-        new_is ∙ (λ i. lone_leaves lone i ++ made lock (seat_is i) (lone_leaves lone i) part)
+      abbrev alone_commits : List Commit
+      alone_commits = commits_by lock (h lock) part
+
+      added-alone : t.added ≡ event_of (k.had).append 0 (h lock) alone_commits
+      added-alone = (k.had).added_is ∙ (λ i. made (k.had).append lock (sym (t.stays 0 sits) i) (base-alone i) part)
+
+      made-alone : made_alone storing h its_ask ≡ t.added
+      made-alone =
+          let whole : final lock ≡ h lock ++ (t.added ++ on.more) = on.grown ∙ (ap (λ l. l ++ on.more) (t.new_is ∙ ap (λ l. l ++ t.added) base-alone) ∙ append_assoc (h lock) t.added on.more) in
+          let behind : drop (length (h lock)) (final lock) ≡ t.added ++ on.more = ap (drop (length (h lock))) whole ∙ drop-append_seam (h lock) (t.added ++ on.more) in
+          same-made (k.had).append (storing lock (length (h lock))) 0 (h lock) alone_commits on.more
+          (λ some. went lock (length (h lock)) (omega (arith, some, ap length whole, length-append (h lock) (t.added ++ on.more), length-append t.added on.more, ap length added-alone))
+          ∙ ap append_in (behind ∙ ap (λ l. l ++ on.more) added-alone))
+          ∙ sym added-alone
+
+      pub lone_adds : h2 lock ≡ h lock ++ made_alone storing h its_ask
+      lone_adds = t.new_is ∙ (λ i. base-alone i ++ sym made-alone i)
+
+      pub lone_answers : answered.answer ≡ answer_alone storing h its_ask
+      lone_answers = k.answer_is ∙ (λ i. told (sym made-alone i) (answer lock (sight lock (base-alone i) part) part))
 
     -- its lock has had one ask more
-    pub turns_more : (entry : ℕ → ℕ) (ats : List At) → TurnsAreMarked entry old.turns ats → TurnsAreMarked entry new.turns (ats ++ at_of ∷ [])
-    turns_more entry ats counted j = dite (ℕ_discrete j lock) here there
+    pub turns_more : (entry : BoardState) (ats : List At) → TurnsAreMarked entry old ats → TurnsAreMarked entry new (ats ++ at_of ∷ [])
+    turns_more entry ats counted j = dite (ℕ_discrete j lock) (λ e. subst (λ l. new.turns l ≡ entry.turns l ++ lengths_at l (ats ++ at_of ∷ [])) (sym e) here) there
       where
-        here : j ≡ lock → new.turns j ≡ entry j + asks_at j (ats ++ at_of ∷ [])
-        here e =
-            let one : asks_at j (ats ++ at_of ∷ []) ≡ asks_at j ats + 1 = asks_at-snoc j ats at_of ∙ ap (λ (b : Bool). asks_at j ats + (if b then 1 else 0)) (eq-eqb lock j (sym e)) in
-            let more : new.turns j ≡ suc (old.turns j) = ap new.turns e ∙ (k.counted ∙ ap (λ l. suc (old.turns l)) (sym e)) in
-            omega (arith, one, more, counted j)
+        here : new.turns lock ≡ entry.turns lock ++ lengths_at lock (ats ++ at_of ∷ [])
+        here =
+            let one : lengths_at lock (ats ++ at_of ∷ []) ≡ lengths_at lock ats ++ answered.len ∷ [] =
+            lengths_at-snoc lock ats at_of ∙ ap (λ (b : Bool). lengths_at lock ats ++ (if b then answered.len ∷ [] else [])) (eq-eqb lock lock refl) in
+            (k.had).counted ∙ (λ i. counted lock i ++ sym k.len i ∷ []) ∙ append_assoc (entry.turns lock) (lengths_at lock ats) (answered.len ∷ []) ∙ ap (λ l. entry.turns lock ++ l) (sym one)
 
-        there : j ≢ lock → new.turns j ≡ entry j + asks_at j (ats ++ at_of ∷ [])
+        there : j ≢ lock → new.turns j ≡ entry.turns j ++ lengths_at j (ats ++ at_of ∷ [])
         there ne =
-            let none : asks_at j (ats ++ at_of ∷ []) ≡ asks_at j ats + 0 = asks_at-snoc j ats at_of ∙ ap (λ (b : Bool). asks_at j ats + (if b then 1 else 0)) (ne_eqb lock j (λ e. ne (sym e))) in
-            omega (arith, none, ((k.turn).others j ne).turn, counted j)
+            let none : lengths_at j (ats ++ at_of ∷ []) ≡ lengths_at j ats =
+            lengths_at-snoc j ats at_of ∙ ap (λ (b : Bool). lengths_at j ats ++ (if b then answered.len ∷ [] else [])) (ne_eqb lock j (λ e. ne (sym e))) ∙ append-nil (lengths_at j ats) in
+            (t.others j ne).turn ∙ counted j ∙ ap (λ l. entry.turns j ++ l) (sym none)

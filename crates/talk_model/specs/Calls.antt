@@ -85,7 +85,7 @@ scope_of Private = scope.Private
 scope_of Shared = scope.Shared
 scope_of Public = scope.Private
 
--- a lock has but answers that fit what it was asked; of the others the reply is that there is no such zone
+-- a lock has but answers that fit what it was asked, or that its store failed; of the others the reply is that there is no such zone
 abbrev pub modify_reply : ModifyCall → Given → Answer → Reply
 modify_reply c g (answer.Modify outcomes) = ModifyReply (record {
   zone = c.zone;
@@ -94,6 +94,7 @@ modify_reply c g (answer.Modify outcomes) = ModifyReply (record {
 })
 modify_reply c g (answer.Lookup records) = Refused ZoneNotFound
 modify_reply c g answer.NoZone = Refused ZoneNotFound
+modify_reply c g answer.StoreFailed = Refused TryAgainLater
 
 abbrev pub lookup_reply : LookupCall → Answer → Reply
 lookup_reply c (answer.Modify outcomes) = Refused ZoneNotFound
@@ -103,6 +104,7 @@ lookup_reply c (answer.Lookup records) = LookupReply (record {
   entries = map (found_entry c.desired_keys) (zip c.names records);
 })
 lookup_reply c answer.NoZone = Refused ZoneNotFound
+lookup_reply c answer.StoreFailed = Refused TryAgainLater
 
 -- what is to be done for a call
 abbrev pub step_of : Call → Given → Step

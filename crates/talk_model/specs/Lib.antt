@@ -1,5 +1,7 @@
 -- what is wanted of a request, and by whom
 pub mod Requests
+-- the operations with a body are those whose method is POST
+pub mod Methods
 -- what the clock and the random words gave for a request
 pub mod Given
 -- what a request asks of the locks, and what is replied, given the answers

@@ -1,28 +1,36 @@
--- When marks fit requests and the histories of the locks.
-use Rattle.std.specs.Prelude.{◌≡◌, ℕ, suc, ◌+◌, ◌-◌, ◌<◌, ◌≤◌, ◌&&◌, ◌==◌, true, List, [], ◌∷◌, ◌++◌, length, take, drop, Option, Some, filter, if◌then◌else◌, ⊤}
+-- When marks fit requests and what a board tells.
+use Rattle.std.specs.Prelude.{◌≡◌, ℕ, suc, ◌-◌, ◌<◌, ◌≤◌, ◌==◌, true, List, [], ◌∷◌, ◌++◌, length, take, drop, map, Some, filter, if◌then◌else◌, ⊤}
 use Rattle.std.specs.List.{AllByRecursion, flat_map}
 use Rattle.zone_model.specs.declared.events.Event.{Event}
-use Rattle.zone_model.specs.Histories.{Histories}
+use Rattle.zone_model.specs.Histories.{Histories, Grows}
 use Rattle.zone_model.specs.Events.{own_of}
 use Rattle.board_model.specs.declared.answers.Answer.{Answer}
-use Rattle.board_model.specs.Asks.{sight, answer, made, makes, commits_by}
+use Rattle.board_model.specs.Asks.{Append, sight, answer, made, makes, commits_by, told}
+use Rattle.board_model.specs.Turns.{BoardState, TellsFault}
 use Rattle.talk_model.specs.declared.marks.At.{At}
 use Rattle.talk_model.specs.declared.marks.Mark.{Mark}
 use Rattle.talk_model.specs.Requests.{Meaning}
 use Rattle.talk_model.specs.Given.{given_of, AreWordsFor}
 use Rattle.talk_model.specs.Calls.{Ask, Step, asks, replies, step_for, IsReply}
 
--- the seat that a board has at a lock stays
-abbrev pub SeatsStay : (ℕ → Option ℕ) → (ℕ → Option ℕ) → Type 0
-SeatsStay old new = (lock n : ℕ) → old lock ≡ Some n → new lock ≡ Some n
+-- A board later on: its histories have grown, its seats stay, its store's counts of faults have not fallen, and it is as alone as it was.
+pub record IsLater (old new : BoardState) : Type 0 where
+  pub grown : Grows old.histories new.histories
+  pub stays : (lock n : ℕ) → old.seats lock ≡ Some n → new.seats lock ≡ Some n
+  pub risen : (lock : ℕ) → old.faults lock ≤ new.faults lock
+  pub still : new.alone ≡ old.alone
 
 -- the history that an ask was answered at: the first events up to its length, less its own
 abbrev pub base_of : Histories Event → At → List Event
 base_of h at = take (at.len - (if at.event then 1 else 0)) (h at.lock)
 
--- the answer to an ask, by what it is given to see of the history that it found
+-- its own event, where it made one
+abbrev pub event_at : Histories Event → At → List Event
+event_at h at = if at.event then drop (at.len - 1) (take at.len (h at.lock)) else []
+
+-- the answer to an ask, by what it is given to see of the history that it found, unless its event tells that the store failed
 abbrev pub answer_at : Histories Event → At → Ask → Answer
-answer_at h at a = answer a.lock (sight a.lock (base_of h at) a.part) a.part
+answer_at h at a = told (event_at h at) (answer a.lock (sight a.lock (base_of h at) a.part) a.part)
 
 -- what is to be done behind asks that were answered there
 abbrev pub step_at : Histories Event → List At → Step → Step
@@ -31,39 +39,41 @@ step_at h (at ∷ ats) (asks a next) = step_at h ats (next (answer_at h at a))
 step_at h (at ∷ ats) (replies r) = replies r
 
 -- The trace tells the ask of a part at its lock: a length that lies in what the history grew by, whether something is made at
--- the history that it found, and then, as the last event, what is made there by this board.
-pub record IsAtOf (seats : ℕ → Option ℕ) (entry now : Histories Event) (at : At) (asked : Ask) : Type 0 where
+-- the history that it found, and then, as the last event, what is made there by this board, with the fault of the store, if it failed since entry.
+pub record IsAtOf (entry now : BoardState) (at : At) (asked : Ask) : Type 0 where
   pub seat : ℕ
-  pub sits : seats at.lock ≡ Some seat
+  pub append : Append
+  pub sits : now.seats at.lock ≡ Some seat
   pub lock : at.lock ≡ asked.lock
-  pub since_entry : length (entry at.lock) ≤ at.len
-  pub past_entry : at.event ≡ true → length (entry at.lock) < at.len
-  pub within : at.len ≤ length (now at.lock)
-  pub event : at.event ≡ makes (commits_by asked.lock (base_of now at) asked.part)
-  pub event_is : take at.len (now at.lock) ≡ base_of now at ++ made asked.lock seat (base_of now at) asked.part
+  pub since_entry : length (entry.histories at.lock) ≤ at.len
+  pub past_entry : at.event ≡ true → length (entry.histories at.lock) < at.len
+  pub within : at.len ≤ length (now.histories at.lock)
+  pub event : at.event ≡ makes (commits_by asked.lock (base_of now.histories at) asked.part)
+  pub event_is : take at.len (now.histories at.lock) ≡ base_of now.histories at ++ made append asked.lock seat (base_of now.histories at) asked.part
+  pub fault : (before : ℕ) × (after : ℕ) × (entry.faults at.lock ≤ before) × (after ≤ now.faults at.lock) × TellsFault append before after
 
 -- the traces tell asks of a step, one after another, each the one that the answers before it call for
-abbrev pub AreAtsOf : (ℕ → Option ℕ) → Histories Event → Histories Event → List At → Step → Type 0
-AreAtsOf seats entry now [] step = ⊤
-AreAtsOf seats entry now (at ∷ ats) (asks a next) = IsAtOf seats entry now at a × AreAtsOf seats entry now ats (next (answer_at now at a))
-AreAtsOf seats entry now (at ∷ ats) (replies r) = ⊥
+abbrev pub AreAtsOf : BoardState → BoardState → List At → Step → Type 0
+AreAtsOf entry now [] step = ⊤
+AreAtsOf entry now (at ∷ ats) (asks a next) = IsAtOf entry now at a × AreAtsOf entry now ats (next (answer_at now.histories at a))
+AreAtsOf entry now (at ∷ ats) (replies r) = ⊥
 
 -- what is to be done behind the asks of a mark
 abbrev pub step_behind : Histories Event → Mark → Meaning → Step
 step_behind h m w = step_at h m.asks.items (step_for w.want (given_of m))
 
 -- The mark tells a request: its number, the words that were drawn for it, and its asks so far.
-pub record IsMarkOf (seats : ℕ → Option ℕ) (number : ℕ) (entry now : Histories Event) (m : Mark) (w : Meaning) : Type 0 where
+pub record IsMarkOf (number : ℕ) (entry now : BoardState) (m : Mark) (w : Meaning) : Type 0 where
   pub request : m.request ≡ number
   pub words : AreWordsFor w.want (given_of m)
-  pub asks : AreAtsOf seats entry now m.asks.items (step_for w.want (given_of m))
+  pub asks : AreAtsOf entry now m.asks.items (step_for w.want (given_of m))
 
 -- one mark for each request, in order, counted from this number, each with all of its asks
-abbrev pub AreMarksOf : (ℕ → Option ℕ) → ℕ → Histories Event → Histories Event → List Mark → List Meaning → Type 0
-AreMarksOf seats number entry now [] [] = ⊤
-AreMarksOf seats number entry now [] (w ∷ ws) = ⊥
-AreMarksOf seats number entry now (m ∷ marks) [] = ⊥
-AreMarksOf seats number entry now (m ∷ marks) (w ∷ ws) = IsMarkOf seats number entry now m w × IsReply (step_behind now m w) × AreMarksOf seats (suc number) entry now marks ws
+abbrev pub AreMarksOf : ℕ → BoardState → BoardState → List Mark → List Meaning → Type 0
+AreMarksOf number entry now [] [] = ⊤
+AreMarksOf number entry now [] (w ∷ ws) = ⊥
+AreMarksOf number entry now (m ∷ marks) [] = ⊥
+AreMarksOf number entry now (m ∷ marks) (w ∷ ws) = IsMarkOf number entry now m w × IsReply (step_behind now.histories m w) × AreMarksOf (suc number) entry now marks ws
 
 -- the asks of the marks, in order
 abbrev pub asks_in : List Mark → List At
@@ -78,22 +88,21 @@ abbrev pub AreInOrder : List At → Type 0
 AreInOrder [] = ⊤
 AreInOrder (a ∷ ats) = AllByRecursion (NotBefore a) ats × AreInOrder ats
 
--- the event of an ask at the lock, where it made one
-abbrev pub marked_by : ℕ → List Event → At → List Event
-marked_by lock events at = if (at.lock == lock) && at.event then drop (at.len - 1) (take at.len events) else []
-
 -- the events at a lock that the asks made
-abbrev pub marked : ℕ → List Event → List At → List Event
-marked lock events ats = flat_map (marked_by lock events) ats
+abbrev pub marked_by : ℕ → Histories Event → At → List Event
+marked_by lock h at = if at.lock == lock then event_at h at else []
 
--- how many of the asks were of the lock
-abbrev pub asks_at : ℕ → List At → ℕ
-asks_at lock ats = length (filter (λ (at : At). at.lock == lock) ats)
+abbrev pub marked : ℕ → Histories Event → List At → List Event
+marked lock h ats = flat_map (marked_by lock h) ats
 
--- each lock has had just these asks since entry
-abbrev pub TurnsAreMarked : (ℕ → ℕ) → (ℕ → ℕ) → List At → Type 0
-TurnsAreMarked entry now ats = (lock : ℕ) → now lock ≡ entry lock + asks_at lock ats
+-- the lengths of the asks of the lock
+abbrev pub lengths_at : ℕ → List At → List ℕ
+lengths_at lock ats = map (λ (at : At). at.len) (filter (λ (at : At). at.lock == lock) ats)
+
+-- each lock has had just these asks since entry, answered at these lengths
+abbrev pub TurnsAreMarked : BoardState → BoardState → List At → Type 0
+TurnsAreMarked entry now ats = (lock : ℕ) → now.turns lock ≡ entry.turns lock ++ lengths_at lock ats
 
 -- The board's own events beyond those at entry are just those that the asks made.
-abbrev pub OwnAreMarked : (ℕ → Option ℕ) → Histories Event → Histories Event → List At → Type 0
-OwnAreMarked seats entry now ats = (lock : ℕ) → own_of (seats lock) (drop (length (entry lock)) (now lock)) ≡ marked lock (now lock) ats
+abbrev pub OwnAreMarked : BoardState → BoardState → List At → Type 0
+OwnAreMarked entry now ats = (lock : ℕ) → own_of (now.seats lock) (drop (length (entry.histories lock)) (now.histories lock)) ≡ marked lock now.histories ats

@@ -10,7 +10,7 @@ use Rattle.ck_base.specs.declared.route.Database.TheVariants.{Private, Shared, P
 use Rattle.ck_base.specs.declared.route.Operation.{Operation}
 use Rattle.ck_base.specs.declared.route.Operation.TheVariants.{RecordsModify, RecordsLookup}
 use Rattle.ck_base.specs.declared.route.Route.{Route}
-use Rattle.zone_model.specs.PlainCreates.{is_plain_create}
+use Rattle.plain_creates.specs.PlainCreates.{is_plain_create}
 use Rattle.error_replies.specs.declared.errors.ServerError.{ServerError}
 use Rattle.error_replies.specs.declared.errors.ServerError.TheVariants.{BadRequest, AuthenticationFailed, AuthenticationRequired}
 use Rattle.wire_calls.specs.declared.call.Call.{Call}

@@ -1,6 +1,7 @@
 // What holds of the bytes of a connection. The functions do nothing: their clauses are the laws.
 ghost use Rattle.talk_model.specs.declared.ends.End.TheVariants.{CloseAsked, BadHead, HeadTooLong, NoLength, BodyTooLong, Spent, NotBuilt};
 ghost use Rattle.talk_model.specs.ConnectionLaws.{HaveOneReading, StaysRead, WholeOnesEnd};
+ghost use Rattle.talk_model.specs.Methods.{PostsHaveBodies};
 
 /// The bytes of a connection determine the requests at their front and its end, and bytes that come
 /// behind an end that leaves bytes unread change neither.
@@ -19,4 +20,9 @@ pub fn bytes_have_one_reading()
 /// asks to close and at most as many as it may have, and ends well if their forms are built.
 pub fn whole_connections_end_well()
     ensures { WholeOnesEnd }
+{}
+
+/// The operations whose body is read are those whose method is POST.
+pub fn posts_have_bodies()
+    ensures { PostsHaveBodies }
 {}

@@ -8,6 +8,6 @@ mod marks;
 mod wants;
 
 pub use ends::{End, Talk, TalkFault, TalkFaultKind};
-pub use laws::{bytes_have_one_reading, whole_connections_end_well};
+pub use laws::{bytes_have_one_reading, posts_have_bodies, whole_connections_end_well};
 pub use marks::{At, Mark};
 pub use wants::{Sender, Want};

@@ -1,6 +1,6 @@
 -- Reading what was written for calls.
 use Rattle.std.proofs.Common.{◌≡◌, ℕ, ◌≤◌, Bool, true, false, List, [], ◌∷◌, map, length, Option, None, Some, option_map, bytes_eq, refl, sym, ap, ap₂, ◌∙◌}
-use Rattle.std.specs.Prelude.{Result, Ok, codes, IfSome, if◌then◌else◌}
+use Rattle.std.specs.Prelude.{Result, Ok, codes, IfSome, if◌then◌else◌, ok_or}
 use Rattle.std.specs.List.{AllByRecursion}
 use Rattle.std.proofs.lemmas.Bool.{le-ltb, and_parts}
 use Rattle.std.proofs.lemmas.Slice.Eq.{bytes_eq-Decides}
@@ -26,11 +26,13 @@ use Rattle.wire_calls.specs.declared.call.LookupCall.{LookupCall}
 use Rattle.wire_calls.specs.declared.call.Call.TheVariants.{Modify, Lookup}
 use Rattle.wire_calls.specs.declared.lists.Listed.TheVariants.{FieldNames, RecordsByName}
 use Rattle.wire_calls.specs.declared.fault.CallKey.{CallKey}
-use Rattle.wire_calls.specs.declared.fault.CallKey.TheVariants.{Atomic, NumbersAsStrings}
+use Rattle.wire_calls.specs.declared.fault.CallKey.TheVariants.{Atomic, NumbersAsStrings, DesiredKeys, Records}
 use Rattle.wire_calls.specs.declared.fault.BadCall.{BadCall}
+use Rattle.wire_calls.specs.declared.fault.BadCall.TheVariants.{BadKey}
 use Rattle.field_values.specs.ZoneIds.{zone_in, zone_data, IsMeantZone}
 use Rattle.wire_calls.specs.Zones.{zone_at}
-use Rattle.wire_calls.specs.Members.{flag_at, name_as, keys_at, records_at, limited, limited_if}
+use Rattle.wire_calls.specs.Members.{flag_at, limited, limited_if}
+use Rattle.wire_calls.specs.Listings.{listed_name, keys_at, records_at}
 use Rattle.wire_calls.specs.Calls.{ops_at, checked, modify_of, lookup_of}
 use Rattle.wire_calls.specs.CallWriting.{flag_data, zone_given, names_data, records_data, modify_data, lookup_data}
 use Rattle.wire_calls.specs.Meant.{AreNames, IsMeantModify, IsMeantLookup, CallsReadBack}
@@ -65,11 +67,11 @@ zone_reads caller key is = by (is_own_default caller key) refl where
 ops_read : (here : ZoneKey) (caller : List ℕ) (ops : List Op) → AllByRecursion IsMeantOp ops → ops_at here caller (there (Some (ops_data ops))) ≡ Ok ops
 ops_read here caller ops all = rw (ops_read_back here caller ops all) refl
 
-texts_read : (names : List (List ℕ)) → AllByRecursion IsName names → each_or_first_error (name_as FieldNames) (map string names) ≡ Ok names
+texts_read : (names : List (List ℕ)) → AllByRecursion IsName names → each_or_first_error (λ d. ok_or (listed_name FieldNames d) (BadKey DesiredKeys)) (map string names) ≡ Ok names
 texts_read [] all = refl
 texts_read (name ∷ names) all = rw (name_told name all.0, texts_read names all.1) refl
 
-objects_read : (names : List (List ℕ)) → AllByRecursion IsName names → each_or_first_error (name_as RecordsByName) (map named_data names) ≡ Ok names
+objects_read : (names : List (List ℕ)) → AllByRecursion IsName names → each_or_first_error (λ d. ok_or (listed_name RecordsByName d) (BadKey Records)) (map named_data names) ≡ Ok names
 objects_read [] all = refl
 objects_read (name ∷ names) all = rw (name_told name all.0, objects_read names all.1) refl
 

@@ -1,8 +1,11 @@
 -- Reading replies.
-use Rattle.std.proofs.Common.{◌≡◌, ◌==◌, ℕ, suc, ◌+◌, Ordering, Less, Equal, Greater, nat_cmp, is_eq, option_and_then, String, Bool, true, false, List, [], ◌∷◌, ◌++◌, map, length, drop, None, Some, inl, inr, refl, sym, ap, subst, ◌∙◌, arith, append_assoc, ◌<◌, ◌≤◌, append-nil, get_or}
+use Rattle.std.proofs.Common.{◌≡◌, ◌==◌, ℕ, zero, suc, ◌+◌, Ordering, Less, Equal, Greater, nat_cmp, is_eq, option_and_then, String, Bool, true, false, List, [], ◌∷◌, ◌++◌, map, length, take, None, Some, inl, inr, refl, sym, ap, ap₂, subst, ◌∙◌, arith, ◌<◌, ◌≤◌, get_or, slice_get, option_map}
 use Rattle.std.specs.Prelude.{◌≢◌, codes, Result, Ok, Err}
 use Rattle.std.proofs.lemmas.Bool.{ne_eqb}
-use Rattle.std.proofs.lemmas.List.{drop_more, drop_all}
+use Rattle.std.proofs.lemmas.List.{map-append, take_all, take-map, take_more}
+use Rattle.std.proofs.lemmas.Option.{slice_get_read, slice_get-map}
+use Rattle.std.proofs.lemmas.Slice.Zip.{AllZip-long, all_zipped_more}
+use Rattle.std.specs.List.{AllZip}
 use Rattle.std.proofs.lemmas.Map.Text.{is_eq-slice_cmp}
 use Rattle.std.proofs.lemmas.Slice.Eq.{bytes_eq-Decides}
 use Rattle.std.specs.Cmp.Lexicographic.{slice_cmp}
@@ -33,93 +36,96 @@ use Rattle.wire_calls.specs.Asked.{asked_of, zone_of, as_text_of}
 use Rattle.wire_calls.specs.Calls.{IsJson}
 use Rattle.wire_calls.specs.Entries.{error_in, IsAnswer}
 use Rattle.wire_calls.specs.Replies.{reply_entry_data, reply_data, reply_status}
-use Rattle.wire_calls.specs.RepliesTo.{AreAnswers, ListsFor, IsFor, IsReplyTo, IsReply, has_one_member, listing, IsNone, AreAnswersOf, records_of, with_entries, IsFirstWrong, IsWrongAt, IsBadAt, IsBadReply, Tells, RepliesAreOne}
+use Rattle.wire_calls.specs.RepliesTo.{IsAsked, AreAnswers, ListsFor, IsFor, IsReplyTo, IsReply, has_one_member, listing, IsNone, AreAnswersOf, records_of, with_entries, IsAnswered, IsFirstWrong, IsWrongAt, IsBadAt, IsBadReply, Tells, RepliesAreOne}
 use Rattle.wire_calls.proofs.EntryLemmas.{one_entry, error_told}
 
 -- ---- the entries, one after another
 
-pub next : {A : Type 0} (xs : List A) (i : ℕ) (x : A) → i < length xs → x ≡ get_or xs i x → drop i xs ≡ x ∷ drop (i + 1) xs
-next xs i x within at = drop_more xs i x within ∙ ap (λ y. y ∷ drop (i + 1) xs) (sym at)
+-- what holds of the elements at each place
+at_place : {A B : Type 0} (R : A → B → Type 0) (xs : List A) (ys : List B) → AllZip R xs ys → (i : ℕ) (x : A) (y : B) → slice_get xs i ≡ Some x → slice_get ys i ≡ Some y → R x y
+at_place R [] [] all i x y at_x at_y = absurd (cc at_x)
+at_place R [] (b ∷ ys) all i x y at_x at_y = absurd all
+at_place R (a ∷ xs) [] all i x y at_x at_y = absurd all
+at_place R (a ∷ xs) (b ∷ ys) all zero x y at_x at_y =
+    let here_x : a ≡ x = cc at_x in
+    let here_y : b ≡ y = cc at_y in
+    subst (λ z. R x z) here_y (subst (λ z. R z b) here_x all.0)
+at_place R (a ∷ xs) (b ∷ ys) all (suc i) x y at_x at_y = at_place R xs ys all.1 i x y at_x at_y
+
+-- one more, where the next stands at its place
+next : {A : Type 0} (xs : List A) (i : ℕ) (x : A) → i < length xs → x ≡ get_or xs i x → take (i + 1) xs ≡ take i xs ++ x ∷ []
+next xs i x within at = take_more xs i x within ∙ ap (λ y. take i xs ++ y ∷ []) (sym at)
 
 module _ (owner : List ℕ) (as_text : Bool) where
-  -- what is to be shown of the entries that are left, where the first has these parts
+  abbrev written_as : RecordEntry → Data
+  written_as = reply_entry_data owner as_text
+
+  -- an entry that is asked for is one of its JSON
+  answer_of : (a : Asked) (e : RecordEntry) → IsAsked a e → IsAnswer owner as_text a (written_as e) e
+  answer_of a e is = record { entry = record { form = is.form; written = refl }; asked = is.asked }
+
+  each_answered : (wants : List Asked) (es : List RecordEntry) → AreAnswers wants es → AllZip (IsAnswered owner as_text) wants (map written_as es)
+  each_answered [] [] are = tt
+  each_answered [] (e ∷ es) are = absurd are
+  each_answered (a ∷ wants) [] are = absurd are
+  each_answered (a ∷ wants) (e ∷ es) are = ((e, answer_of a e are.0), each_answered wants es are.1)
+
+  all_answered : (wants : List Asked) (ds : List Data) (es : List RecordEntry) → AreAnswersOf owner as_text wants ds es → AllZip (IsAnswered owner as_text) wants ds
+  all_answered wants ds es are = subst (AllZip (IsAnswered owner as_text) wants) are.written (each_answered wants es are.asked)
+
   module _ (wants : List Asked) (items : List Value) (done : List RecordEntry) (i : ℕ) (a : Asked) (v : Value)
-      (next_asked : drop i wants ≡ a ∷ drop (i + 1) wants) (next_item : drop i items ≡ v ∷ drop (i + 1) items) where
+      (within_wants : i < length wants) (within : i < length items) (asked_is : a ≡ get_or wants i a) (item_is : v ≡ get_or items i v)
+      (so_far : AreAnswersOf owner as_text (take i wants) (map view (take i items)) done) where
     pub one_more : (e : RecordEntry) → IsAnswer owner as_text a (view v) e
-        → ((rest : List RecordEntry) → AreAnswersOf owner as_text (drop i wants) (map view (drop i items)) rest → AreAnswersOf owner as_text wants (map view items) (done ++ rest))
-        → (rest : List RecordEntry) → AreAnswersOf owner as_text (drop (i + 1) wants) (map view (drop (i + 1) items)) rest → AreAnswersOf owner as_text wants (map view items) ((done ++ e ∷ []) ++ rest)
-    one_more e is so_far rest are =
-        let here : AreAnswersOf owner as_text (a ∷ drop (i + 1) wants) (view v ∷ map view (drop (i + 1) items)) (e ∷ rest) = (is, are) in
-        let there : AreAnswersOf owner as_text (drop i wants) (map view (drop i items)) (e ∷ rest) = rw (next_asked, next_item) here in
-        subst (AreAnswersOf owner as_text wants (map view items)) (sym (append_assoc done (e ∷ []) rest)) (so_far (e ∷ rest) there)
+        → AreAnswersOf owner as_text (take (i + 1) wants) (map view (take (i + 1) items)) (done ++ e ∷ [])
+    one_more e is =
+        let asked : IsAsked a e = record { form = is.entry.form; asked = is.asked } in
+        let last : map written_as (e ∷ []) ≡ map view (v ∷ []) = ap (λ d. d ∷ []) is.entry.written in
+        record {
+          asked = subst (λ ws. AreAnswers ws (done ++ e ∷ [])) (sym (next wants i a within_wants asked_is)) (all_zipped_more IsAsked (take i wants) done a e so_far.asked asked);
+          written = map-append written_as done (e ∷ []) ∙ ap₂ (λ xs ys. xs ++ ys) so_far.written last
+              ∙ sym (ap (map view) (next items i v within item_is) ∙ map-append view (take i items) (v ∷ []));
+        }
 
-    pub later : (e : RecordEntry) (n m : ℕ) → m ≡ suc n → IsAnswer owner as_text a (view v) e
-        → ((at : ℕ) → IsFirstWrong owner as_text n (drop i wants) (map view (drop i items)) at → IsFirstWrong owner as_text 1 wants (map view items) at)
-        → (at : ℕ) → IsFirstWrong owner as_text m (drop (i + 1) wants) (map view (drop (i + 1) items)) at → IsFirstWrong owner as_text 1 wants (map view items) at
-    later e n m next is so_far at wrong =
-        let more = subst (λ k. IsFirstWrong owner as_text k (drop (i + 1) wants) (map view (drop (i + 1) items)) at) next wrong in
-        let here : IsFirstWrong owner as_text n (a ∷ drop (i + 1) wants) (view v ∷ map view (drop (i + 1) items)) at = inr (e, is, more) in
-        let there : IsFirstWrong owner as_text n (drop i wants) (map view (drop i items)) at = rw (next_asked, next_item) here in
-        so_far at there
-
-    pub wrong_here : (n : ℕ) → ((e : RecordEntry) → IsAnswer owner as_text a (view v) e → ⊥)
-        → ((at : ℕ) → IsFirstWrong owner as_text n (drop i wants) (map view (drop i items)) at → IsFirstWrong owner as_text 1 wants (map view items) at)
-        → IsFirstWrong owner as_text 1 wants (map view items) n
-    wrong_here n none so_far =
-        let here : IsFirstWrong owner as_text n (a ∷ drop (i + 1) wants) (view v ∷ map view (drop (i + 1) items)) n = inl (refl, none) in
-        let there : IsFirstWrong owner as_text n (drop i wants) (map view (drop i items)) n = rw (next_asked, next_item) here in
-        so_far n there
+    pub wrong_here : ((e : RecordEntry) → IsAnswer owner as_text a (view v) e → ⊥) → IsFirstWrong owner as_text wants (map view items) (i + 1)
+    wrong_here none = record {
+      before = i;
+      number = refl;
+      asked = a;
+      json = view v;
+      wanted = slice_get_read wants (length wants) i a refl within_wants asked_is;
+      told = slice_get-map view items i ∙ ap (option_map view) (slice_get_read items (length items) i v refl within item_is);
+      wrong = λ is. none is.0 is.1;
+      right = subst (AllZip (IsAnswered owner as_text) (take i wants)) (sym (take-map view i items)) (all_answered (take i wants) (map view (take i items)) done so_far);
+    }
 
   pub all_read : (wants : List Asked) (items : List Value) (done : List RecordEntry) (i : ℕ) → length items ≤ i → length items ≡ length wants
-      → ((rest : List RecordEntry) → AreAnswersOf owner as_text (drop i wants) (map view (drop i items)) rest → AreAnswersOf owner as_text wants (map view items) (done ++ rest))
-      → AreAnswersOf owner as_text wants (map view items) done
+      → AreAnswersOf owner as_text (take i wants) (map view (take i items)) done → AreAnswersOf owner as_text wants (map view items) done
   all_read wants items done i past count so_far =
-      let no_wants : drop i wants ≡ [] = drop_all i wants (omega (arith, past, count)) in
-      let no_items : drop i items ≡ [] = drop_all i items past in
-      let there : AreAnswersOf owner as_text (drop i wants) (map view (drop i items)) [] = rw (no_wants, no_items) tt in
-      subst (AreAnswersOf owner as_text wants (map view items)) (append-nil done) (so_far [] there)
+      let whole_wants : take i wants ≡ wants = take_all i wants (omega (arith, past, count)) in
+      let whole_items : take i items ≡ items = take_all i items past in
+      subst (λ ws. AreAnswersOf owner as_text ws (map view items) done) whole_wants
+      (subst (λ vs. AreAnswersOf owner as_text (take i wants) (map view vs) done) whole_items so_far)
 
   -- ---- entries and their JSON
 
-  pub from_data : (wants : List Asked) (ds : List Data) (es : List RecordEntry) → AreAnswersOf owner as_text wants ds es → AreAnswers wants es × (map (reply_entry_data owner as_text) es ≡ ds)
-  from_data [] [] [] are = (tt, refl)
-  from_data [] [] (e ∷ es) are = absurd are
-  from_data [] (d ∷ ds) es are = absurd are
-  from_data (a ∷ wants) [] es are = absurd are
-  from_data (a ∷ wants) (d ∷ ds) [] are = absurd are
-  from_data (a ∷ wants) (d ∷ ds) (e ∷ es) are =
-      let (others, written) = from_data wants ds es are.1 in
-      ((are.0.entry.form, are.0.asked, others), rw (are.0.entry.written, written) refl)
+  no_first_wrong : (wants : List Asked) (es : List RecordEntry) (at : ℕ) → AreAnswers wants es → IsFirstWrong owner as_text wants (map written_as es) at → ⊥
+  no_first_wrong wants es at are first =
+      first.wrong (at_place (IsAnswered owner as_text) wants (map written_as es) (each_answered wants es are) first.before first.asked first.json first.wanted first.told)
 
-  to_data : (wants : List Asked) (es : List RecordEntry) → AreAnswers wants es → AreAnswersOf owner as_text wants (map (reply_entry_data owner as_text) es) es
-  to_data [] [] are = tt
-  to_data [] (e ∷ es) are = absurd are
-  to_data (a ∷ wants) [] are = absurd are
-  to_data (a ∷ wants) (e ∷ es) are = (record { entry = record { form = are.0; written = refl }; asked = are.1 }, to_data wants es are.2)
-
-  no_first_wrong : (n : ℕ) (wants : List Asked) (ds : List Data) (es : List RecordEntry) (at : ℕ) → AreAnswersOf owner as_text wants ds es → IsFirstWrong owner as_text n wants ds at → ⊥
-  no_first_wrong n [] ds es at are wrong = wrong
-  no_first_wrong n (a ∷ wants) [] es at are wrong = wrong
-  no_first_wrong n (a ∷ wants) (d ∷ ds) [] at are wrong = are
-  no_first_wrong n (a ∷ wants) (d ∷ ds) (e ∷ es) at are (inl none) = none.1 e are.0
-  no_first_wrong n (a ∷ wants) (d ∷ ds) (e ∷ es) at are (inr more) = no_first_wrong (suc n) wants ds es at are.1 more.2
-
-  same_entries : (wants : List Asked) (ds : List Data) (es fs : List RecordEntry) → AreAnswersOf owner as_text wants ds es → AreAnswersOf owner as_text wants ds fs → es ≡ fs
-  same_entries [] [] [] [] one two = refl
-  same_entries [] [] [] (f ∷ fs) one two = absurd two
-  same_entries [] [] (e ∷ es) fs one two = absurd one
-  same_entries [] (d ∷ ds) es fs one two = absurd one
-  same_entries (a ∷ wants) [] es fs one two = absurd one
-  same_entries (a ∷ wants) (d ∷ ds) [] fs one two = absurd one
-  same_entries (a ∷ wants) (d ∷ ds) (e ∷ es) [] one two = absurd two
-  same_entries (a ∷ wants) (d ∷ ds) (e ∷ es) (f ∷ fs) one two =
-      rw (one_entry owner as_text d e f one.0.entry two.0.entry, same_entries wants ds es fs one.1 two.1) refl
+  same_entries : (wants : List Asked) (es fs : List RecordEntry) → AreAnswers wants es → AreAnswers wants fs → map written_as es ≡ map written_as fs → es ≡ fs
+  same_entries [] [] [] one two same = refl
+  same_entries [] [] (f ∷ fs) one two same = absurd two
+  same_entries [] (e ∷ es) fs one two same = absurd one
+  same_entries (a ∷ wants) [] fs one two same = absurd one
+  same_entries (a ∷ wants) (e ∷ es) [] one two same = absurd two
+  same_entries (a ∷ wants) (e ∷ es) (f ∷ fs) one two same =
+      let here : written_as e ≡ written_as f = cc same in
+      let others : map written_as es ≡ map written_as fs = cc same in
+      rw (one_entry owner as_text (written_as f) e f (record { form = one.0.form; written = here }) (record { form = two.0.form; written = refl }), same_entries wants es fs one.1 two.1 others) refl
 
 answers_count : (wants : List Asked) (es : List RecordEntry) → AreAnswers wants es → length es ≡ length wants
-answers_count [] [] are = refl
-answers_count [] (e ∷ es) are = absurd are
-answers_count (a ∷ wants) [] are = absurd are
-answers_count (a ∷ wants) (e ∷ es) are = ap suc (answers_count wants es are.2)
+answers_count wants es are = AllZip-long IsAsked wants es are
 
 map_count : {A B : Type 0} (f : A → B) (xs : List A) → length (map f xs) ≡ length xs
 map_count f [] = refl
@@ -240,7 +246,7 @@ other_count call d ds is other = inl (
 )
 
 pub wrong_entry : (call : Call) (d : Data) (ds : List Data) (at : ℕ) → listing ds ≡ d → length ds ≡ length (asked_of call)
-    → IsFirstWrong (zone_of call).owner (as_text_of call) 1 (asked_of call) ds at → IsBadAt call 200 d at
+    → IsFirstWrong (zone_of call).owner (as_text_of call) (asked_of call) ds at → IsBadAt call 200 d at
 wrong_entry call d ds at is count first = inr (record { items = ds; lists = record { told = refl; written = is; count = count }; first = first })
 
 lists_for : (call : Call) (es : List RecordEntry) → AreAnswers (asked_of call) es → ListsFor call (records_of call es)
@@ -260,13 +266,11 @@ with_data (ALookup c) es = refl
 
 pub all_there : (call : Call) (d : Data) (ds : List Data) (es : List RecordEntry) → listing ds ≡ d → AreAnswersOf (zone_of call).owner (as_text_of call) (asked_of call) ds es
     → IsReplyTo call 200 d (with_entries call es)
-all_there call d ds es is are =
-    let both = from_data (zone_of call).owner (as_text_of call) (asked_of call) ds es are in
-    record {
-      to = is_for call es both.0;
-      told = with_status call es;
-      written = with_data call es ∙ ap listing both.1 ∙ is;
-    }
+all_there call d ds es is are = record {
+  to = is_for call es are.asked;
+  told = with_status call es;
+  written = with_data call es ∙ ap listing are.written ∙ is;
+}
 
 pub other_length : (call : Call) (d : Data) (items : List Value) (wants : List Asked) (n : ℕ) → wants ≡ asked_of call → n ≡ length wants → listing (map view items) ≡ d
     → (length items ≡ n → ⊥) → IsBadAt call 200 d 0
@@ -358,9 +362,8 @@ replies_are_one call status d r s one two = by (sort_of call status d r one) (so
   by (a_list l) (a_list m) =
       let owner = (zone_of call).owner in
       let as_text = as_text_of call in
-      let data_m : map (reply_entry_data owner as_text) m.items ≡ map (reply_entry_data owner as_text) l.items = one_listing d _ _ m.written l.written in
-      let are_m = subst (λ ds. AreAnswersOf owner as_text (asked_of call) ds m.items) data_m (to_data owner as_text (asked_of call) m.items m.answers) in
-      l.is ∙ ap (with_entries call) (same_entries owner as_text (asked_of call) _ l.items m.items (to_data owner as_text (asked_of call) l.items l.answers) are_m) ∙ sym m.is
+      let same : map (reply_entry_data owner as_text) l.items ≡ map (reply_entry_data owner as_text) m.items = one_listing d _ _ l.written m.written in
+      l.is ∙ ap (with_entries call) (same_entries owner as_text (asked_of call) l.items m.items l.answers m.answers same) ∙ sym m.is
   by (a_list l) (a_refusal error e) = absurd (no_success error (ap reply_status (sym e) ∙ two.told ∙ l.told))
   by (a_refusal error e) (a_list m) = absurd (no_success error (ap reply_status (sym e) ∙ one.told ∙ m.told))
   by (a_refusal error e) (a_refusal fault f) =
@@ -382,8 +385,7 @@ no_reply_at call status d at reply wrong is = by (sort_of call status d reply is
       let owner = (zone_of call).owner in
       let as_text = as_text_of call in
       let same : map (reply_entry_data owner as_text) l.items ≡ wrong.items = one_listing d _ _ l.written wrong.lists.written in
-      no_first_wrong owner as_text 1 (asked_of call) wrong.items l.items at
-      (subst (λ ds. AreAnswersOf owner as_text (asked_of call) ds l.items) same (to_data owner as_text (asked_of call) l.items l.answers)) wrong.first
+      no_first_wrong owner as_text (asked_of call) l.items at l.answers (subst (λ ds. IsFirstWrong owner as_text (asked_of call) ds at) (sym same) wrong.first)
   by (a_refusal error e) = no_success error (ap reply_status (sym e) ∙ is.told ∙ wrong.lists.told)
 
 -- ---- bodies

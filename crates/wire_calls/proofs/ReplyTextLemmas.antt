@@ -42,13 +42,13 @@ module _ (owner : List ℕ) (as_text : Bool) where
   entries_whole [] [] are = refl
   entries_whole [] (e ∷ es) are = absurd are
   entries_whole (a ∷ wants) [] are = refl
-  entries_whole (a ∷ wants) (e ∷ es) are = or_from _ _ (entry_flat e are.0).whole (entries_whole wants es are.2)
+  entries_whole (a ∷ wants) (e ∷ es) are = or_from _ _ (entry_flat e are.0.form).whole (entries_whole wants es are.1)
 
   entries_shallow : (wants : List Asked) (es : List RecordEntry) → AreAnswers wants es → items_depth (items_of (map (reply_entry_data owner as_text) es)) ≤ 6
   entries_shallow [] [] are = omega arith
   entries_shallow [] (e ∷ es) are = absurd are
   entries_shallow (a ∷ wants) [] are = omega arith
-  entries_shallow (a ∷ wants) (e ∷ es) are = omega (arith, (entry_flat e are.0).shallow, entries_shallow wants es are.2)
+  entries_shallow (a ∷ wants) (e ∷ es) are = omega (arith, (entry_flat e are.0.form).shallow, entries_shallow wants es are.1)
 
 list_exact : (wants : List Asked) (r : RecordsReply) → AreAnswers wants r.entries → IsExact (records_reply_data r)
 list_exact wants r are = record {

@@ -1,13 +1,13 @@
 -- Which call the body of a request means, or the first fault.
-use Rattle.std.specs.Prelude.{◌≡◌, ℕ, true, false, if◌then◌else◌, List, codes, Option, None, Some, is_some, IsUtf8, ok_or, Result, Ok, Err}
+use Rattle.std.specs.Prelude.{◌≡◌, ℕ, Bool, true, false, if◌then◌else◌, List, codes, Option, None, Some, is_some, IsUtf8, ok_or, Result, Ok, Err}
 use Rattle.std.specs.Result.{result_ok}
-use Rattle.serde_json.specs.Data.{Data}
+use Rattle.serde_json.specs.Data.{Data, object, no_members}
 use Rattle.serde_json.specs.Find.{as_object}
 use Rattle.serde_json.specs.Read.{read}
 use Rattle.ck_base.specs.declared.key.ZoneKey.{ZoneKey}
 use Rattle.ck_base.specs.declared.route.Database.{Database}
 use Rattle.ck_base.specs.declared.route.Operation.{Operation}
-use Rattle.ck_base.specs.declared.route.Operation.TheVariants.{RecordsModify, RecordsLookup}
+use Rattle.ck_base.specs.declared.route.Operation.TheVariants.{RecordsModify, RecordsLookup, ZonesList, SubscriptionsList}
 use Rattle.ck_base.specs.declared.route.Route.{Route}
 use Rattle.field_values.specs.Members.{found}
 use Rattle.field_values.specs.Results.{result_map}
@@ -24,7 +24,8 @@ use Rattle.wire_calls.specs.declared.fault.CallKey.TheVariants.{Atomic, NumbersA
 use Rattle.wire_calls.specs.declared.fault.BadCall.{BadCall}
 use Rattle.wire_calls.specs.declared.fault.BadCall.TheVariants.{NotJson, BadKey, Twice, NotBuilt}
 use Rattle.wire_calls.specs.Zones.{zone_at}
-use Rattle.wire_calls.specs.Members.{flag_at, keys_at, records_at, limited, limited_if}
+use Rattle.wire_calls.specs.Members.{flag_at, limited, limited_if}
+use Rattle.wire_calls.specs.Listings.{keys_at, records_at}
 
 -- a list of operations, each of which is one
 abbrev pub ops_at : ZoneKey → List ℕ → Option Data → Result (List Op) BadCall
@@ -80,11 +81,27 @@ abbrev pub of_object : Route → List ℕ → Option Data → Result Call BadCal
 of_object route caller None = Err (no_call route.operation)
 of_object route caller (Some d) = by_operation route.database caller route.operation d
 
+-- operations whose method is POST; the others list all that there is, by GET
+abbrev pub has_body : Operation → Bool
+has_body ZonesList = false
+has_body SubscriptionsList = false
+has_body _ = true
+
+-- the object that a body means: for a GET, whatever its body is, the empty one
+abbrev pub object_for : Bool → Option Data → Option Data
+object_for true json = object_in json
+object_for false json = Some (object no_members)
+
 -- an object with the members of the route's operation; other members are not looked at
 abbrev pub call_of : Route → List ℕ → Option Data → Result Call BadCall
-call_of route caller o = of_object route caller (object_in o)
+call_of route caller json = of_object route caller (object_for (has_body route.operation) json)
 
 -- The bytes are JSON, as `serde_json` reads it (RFC 8259).
 pub record IsJson (bytes : List ℕ) (d : Data) : Type 0 where
   pub text : IsUtf8 bytes
   pub reads : read bytes ≡ Some d
+
+-- the JSON that a body is read as: its own, or for a GET the empty object
+abbrev pub IsBody : Bool → List ℕ → Data → Type 0
+IsBody true body d = IsJson body d
+IsBody false body d = d ≡ object no_members

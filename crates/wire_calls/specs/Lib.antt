@@ -1,8 +1,8 @@
 -- the zone that a call names
 pub mod Zones
--- members that are truth values, texts, whole numbers or lists of names
+-- members that are truth values, texts or whole numbers, and how long lists may be
 pub mod Members
--- lists of texts and of zones
+-- lists of names, of texts and of zones
 pub mod Listings
 -- which call a body means, or the first fault
 pub mod Calls

@@ -1,15 +1,11 @@
--- Members of calls that are truth values, texts, whole numbers or lists of names.
-use Rattle.std.specs.Prelude.{ℕ, nat_lt, min, if◌then◌else◌, Bool, List, length, codes, Option, None, Some, option_and_then, ok_or, Result, Ok, Err}
-use Rattle.serde_json.specs.Data.{Data, Items}
-use Rattle.serde_json.specs.Find.{as_bool, as_str, as_number, as_u64, as_array}
-use Rattle.field_values.specs.Members.{found, elements}
-use Rattle.field_values.specs.References.{name_in}
-use Rattle.field_values.specs.Results.{result_map, result_and_then, each_or_first_error}
+-- Members of calls that are truth values, texts or whole numbers, and how long their lists may be.
+use Rattle.std.specs.Prelude.{ℕ, nat_lt, min, if◌then◌else◌, Bool, List, length, Option, None, Some, option_and_then, ok_or, Result, Ok, Err}
+use Rattle.serde_json.specs.Data.{Data}
+use Rattle.serde_json.specs.Find.{as_bool, as_str, as_number, as_u64}
+use Rattle.field_values.specs.Results.{result_map, result_and_then}
 use Rattle.zone_model.specs.Limits.{most_page_entries}
-use Rattle.wire_calls.specs.declared.lists.Listed.{Listed}
-use Rattle.wire_calls.specs.declared.lists.Listed.TheVariants.{FieldNames, RecordsByName, SubscriptionsById}
 use Rattle.wire_calls.specs.declared.fault.CallKey.{CallKey}
-use Rattle.wire_calls.specs.declared.fault.CallKey.TheVariants.{DesiredKeys, Records, Subscriptions, ResultsLimit}
+use Rattle.wire_calls.specs.declared.fault.CallKey.TheVariants.{ResultsLimit}
 use Rattle.wire_calls.specs.declared.fault.BadCall.{BadCall}
 use Rattle.wire_calls.specs.declared.fault.BadCall.TheVariants.{BadKey, TooMany}
 
@@ -35,39 +31,6 @@ limited_to_page (Some n) = if nat_lt 0 n then Ok (Some (min n most_page_entries)
 
 abbrev pub limit_at : Option Data → Result (Option ℕ) BadCall
 limit_at o = result_and_then limited_to_page (count_at ResultsLimit o)
-
--- the name that an element of a list has: a text, or a member of an object
-abbrev pub listed_name : Listed → Data → Option (List ℕ)
-listed_name FieldNames d = name_in (Some d)
-listed_name RecordsByName d = name_in (found (codes "recordName") d)
-listed_name SubscriptionsById d = name_in (found (codes "subscriptionID") d)
-
--- the member that is a list of this sort
-abbrev pub call_key : Listed → CallKey
-call_key FieldNames = DesiredKeys
-call_key RecordsByName = Records
-call_key SubscriptionsById = Subscriptions
-
-abbrev pub name_as : Listed → Data → Result (List ℕ) BadCall
-name_as listed d = ok_or (listed_name listed d) (BadKey (call_key listed))
-
--- the names that the elements of a list have
-abbrev pub names_in : Listed → Option Items → Result (List (List ℕ)) BadCall
-names_in listed None = Err (BadKey (call_key listed))
-names_in listed (Some ds) = each_or_first_error (name_as listed) (elements ds)
-
--- names of fields, if there is a list of them
-abbrev pub keys_at : Option Data → Result (Option (List (List ℕ))) BadCall
-keys_at None = Ok None
-keys_at (Some d) = result_map Some (names_in FieldNames (as_array d))
-
--- the names of records
-abbrev pub records_at : Option Data → Result (List (List ℕ)) BadCall
-records_at o = names_in RecordsByName (option_and_then as_array o)
-
--- the IDs of subscriptions
-abbrev pub subscriptions_at : Option Data → Result (List (List ℕ)) BadCall
-subscriptions_at o = names_in SubscriptionsById (option_and_then as_array o)
 
 -- what follows, unless a list is longer than its limit
 abbrev pub limited : {A B : Type 0} → ℕ → List A → Result B BadCall → Result B BadCall

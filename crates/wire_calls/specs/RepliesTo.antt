@@ -1,7 +1,7 @@
 -- Which replies are to a call, and where a body that is none goes wrong.
-use Rattle.std.specs.Prelude.{◌≡◌, ℕ, suc, Bool, true, false, ⊤, ◌⊎◌, List, [], ◌∷◌, length, codes, Result, Ok, Err}
+use Rattle.std.specs.Prelude.{◌≡◌, ℕ, ◌+◌, Bool, true, false, ⊤, ◌⊎◌, List, length, take, slice_get, codes, Some, Result, Ok, Err}
+use Rattle.std.specs.List.{AllZip}
 use Rattle.serde_json.specs.Data.{Data, null, boolean, number, string, array, object, no_members, member}
-use Rattle.serde_json.specs.View.{items_of}
 use Rattle.field_values.specs.Exact.{IsExact}
 use Rattle.error_replies.specs.declared.errors.ServerError.{ServerError}
 use Rattle.wire_calls.specs.declared.asked.Asked.{Asked}
@@ -15,15 +15,18 @@ use Rattle.wire_calls.specs.declared.reply_fault.ReplyFault.{ReplyFault}
 use Rattle.wire_calls.specs.declared.reply_fault.ReplyFault.TheVariants.{BadReply, NoMemory}
 use Rattle.wire_calls.specs.Asked.{asked_of, zone_of, as_text_of, answers}
 use Rattle.wire_calls.specs.Calls.{IsJson}
+use Rattle.wire_calls.specs.Lists.{list_data}
 use Rattle.wire_calls.specs.Entries.{IsEntry, IsAnswer}
-use Rattle.wire_calls.specs.Replies.{reply_data, reply_status}
+use Rattle.wire_calls.specs.Replies.{entries_data, reply_data, reply_status}
+
+-- the entry has its form, and is one that is asked for
+pub record IsAsked (a : Asked) (e : RecordEntry) : Type 0 where
+  pub form : IsEntry e
+  pub asked : answers a e ≡ true
 
 -- an entry for each that is asked for, in order
 abbrev pub AreAnswers : List Asked → List RecordEntry → Type 0
-AreAnswers [] [] = ⊤
-AreAnswers [] (e ∷ es) = ⊥
-AreAnswers (a ∷ wants) [] = ⊥
-AreAnswers (a ∷ wants) (e ∷ es) = IsEntry e × (answers a e ≡ true) × AreAnswers wants es
+AreAnswers wants es = AllZip IsAsked wants es
 
 -- the entries are of the zone of the call, numbers are written as the call wants them, and each entry is one that is asked for
 pub record ListsFor (call : Call) (r : RecordsReply) : Type 0 where
@@ -67,7 +70,7 @@ has_one_member (object (member k d (member l e ms))) = false
 
 -- an object with a list alone
 abbrev pub listing : List Data → Data
-listing ds = object (member (codes "records") (array (items_of ds)) no_members)
+listing ds = list_data (codes "records") ds
 
 -- a list of as many as are asked for
 pub record IsListing (call : Call) (status : ℕ) (d : Data) (ds : List Data) : Type 0 where
@@ -80,14 +83,10 @@ pub record IsNone (call : Call) (status : ℕ) (d : Data) : Type 0 where
   pub list : (ds : List Data) → IsListing call status d ds → ⊥
   pub refused : (error : ServerError) → IsReplyTo call status d (Refused error) → ⊥
 
--- the JSON of each is that of an entry that is asked for
-abbrev pub AreAnswersOf : List ℕ → Bool → List Asked → List Data → List RecordEntry → Type 0
-AreAnswersOf owner as_text [] [] [] = ⊤
-AreAnswersOf owner as_text [] [] (e ∷ es) = ⊥
-AreAnswersOf owner as_text [] (d ∷ ds) es = ⊥
-AreAnswersOf owner as_text (a ∷ wants) [] es = ⊥
-AreAnswersOf owner as_text (a ∷ wants) (d ∷ ds) [] = ⊥
-AreAnswersOf owner as_text (a ∷ wants) (d ∷ ds) (e ∷ es) = IsAnswer owner as_text a d e × AreAnswersOf owner as_text wants ds es
+-- an entry for each that is asked for, in order, and their JSON
+pub record AreAnswersOf (owner : List ℕ) (as_text : Bool) (wants : List Asked) (ds : List Data) (es : List RecordEntry) : Type 0 where
+  pub asked : AreAnswers wants es
+  pub written : entries_data owner as_text es ≡ ds
 
 -- the reply to the call with these entries
 abbrev pub records_of : Call → List RecordEntry → RecordsReply
@@ -97,19 +96,26 @@ abbrev pub with_entries : Call → List RecordEntry → Reply
 with_entries (AModify c) es = Modify (records_of (AModify c) es)
 with_entries (ALookup c) es = Lookup (records_of (ALookup c) es)
 
--- the number of the first that is no entry that is asked for, where they are counted from `n`
-abbrev pub IsFirstWrong : List ℕ → Bool → ℕ → List Asked → List Data → ℕ → Type 0
-IsFirstWrong owner as_text n [] ds at = ⊥
-IsFirstWrong owner as_text n (a ∷ wants) [] at = ⊥
-IsFirstWrong owner as_text n (a ∷ wants) (d ∷ ds) at =
-    ((at ≡ n) × ((e : RecordEntry) → IsAnswer owner as_text a d e → ⊥))
-    ⊎ ((e : RecordEntry) × IsAnswer owner as_text a d e × IsFirstWrong owner as_text (suc n) wants ds at)
+-- some entry that is asked for has the JSON
+abbrev pub IsAnswered : List ℕ → Bool → Asked → Data → Type 0
+IsAnswered owner as_text a d = (e : RecordEntry) × IsAnswer owner as_text a d e
 
--- a list of as many as are asked for, the first wrong one of which, counted from 1, is that
+-- the one with this number, counted from 1, is no entry that is asked for there, and each before it is one
+pub record IsFirstWrong (owner : List ℕ) (as_text : Bool) (wants : List Asked) (ds : List Data) (at : ℕ) : Type 0 where
+  pub before : ℕ
+  pub number : at ≡ before + 1
+  pub asked : Asked
+  pub json : Data
+  pub wanted : slice_get wants before ≡ Some asked
+  pub told : slice_get ds before ≡ Some json
+  pub wrong : IsAnswered owner as_text asked json → ⊥
+  pub right : AllZip (IsAnswered owner as_text) (take before wants) (take before ds)
+
+-- a list of as many as are asked for, of which that is the first wrong one
 pub record IsWrongAt (call : Call) (status : ℕ) (d : Data) (at : ℕ) : Type 0 where
   pub items : List Data
   pub lists : IsListing call status d items
-  pub first : IsFirstWrong (zone_of call).owner (as_text_of call) 1 (asked_of call) items at
+  pub first : IsFirstWrong (zone_of call).owner (as_text_of call) (asked_of call) items at
 
 abbrev pub IsBadAt : Call → ℕ → Data → ℕ → Type 0
 IsBadAt call status d at = ((at ≡ 0) × IsNone call status d) ⊎ IsWrongAt call status d at

@@ -4,6 +4,7 @@
 mod asked;
 mod call;
 mod call_write;
+mod each;
 mod entry_read;
 mod fault;
 mod guids;
@@ -35,4 +36,4 @@ pub use reply_body::reply_text;
 pub use reply_fault::ReplyFault;
 pub use reply_read::read_reply;
 pub use reply_write::{reply_json, reply_status};
-pub use zone_lists::zones_at;
+pub use zone_lists::{ChangedZone, ZoneOp, changed_zones_at, zone_ops_at, zones_at};

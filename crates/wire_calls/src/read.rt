@@ -1,10 +1,10 @@
 // Reading the body of a request.
-ghost use Rattle.std.specs.Prelude.{◌≡◌, None, Some, Ok, IfOk, OnOk};
-ghost use Rattle.serde_json.specs.Data.{Data};
+ghost use Rattle.std.specs.Prelude.{◌≡◌, None, Some, Ok, Err, IfOk, OnOk};
+ghost use Rattle.serde_json.specs.Data.{Data, object, no_members};
 ghost use Rattle.serde_json.specs.View.{view};
 ghost use Rattle.ck_base.specs.Told.{IsToldUnless};
 ghost use Rattle.wire_calls.specs.Meant.{IsMeantCall};
-ghost use Rattle.wire_calls.specs.Calls.{no_call, call_of, IsJson};
+ghost use Rattle.wire_calls.specs.Calls.{no_call, object_in, of_object, has_body, call_of, IsJson};
 ghost use Rattle.wire_calls.specs.Means.{Means};
 ghost use Rattle.wire_calls.specs.declared.call.Call.{Call};
 
@@ -12,7 +12,7 @@ use crate::lookup::read_lookup;
 use crate::modify::read_modify;
 use crate::{BadCall, Call};
 use ck_base::{Operation, Route, UserName};
-use serde_json::Value as Json;
+use serde_json::{Map, Value as Json};
 use std::alloc::Global;
 
 fn read_object(
@@ -22,7 +22,7 @@ fn read_object(
     json: &Json,
 ) -> Result<Call, BadCall>
     ensures call { IsToldUnless BadCall.NoMemory result
-        (call_of route.now caller.now (Some (view json.now))) }
+        (of_object route.now caller.now (object_in (Some (view json.now)))) }
     ensures meant { IfOk result IsMeantCall }
 {
     let is_object = json.is_object();
@@ -50,11 +50,28 @@ fn no_call(operation: Operation) -> BadCall
     }
 }
 
-fn read_bytes(alloc: Global, route: &Route, caller: &UserName, body: &[u8]) -> Result<Call, BadCall>
+// Whether the operation's method is POST. The others list all that there is, by GET.
+fn has_body(operation: Operation) -> bool
+    ensures { result ≡ has_body operation }
+{
+    match operation {
+        Operation::ZonesList => false,
+        Operation::SubscriptionsList => false,
+        _ => true,
+    }
+}
+
+fn read_with_body(
+    alloc: Global,
+    route: &Route,
+    caller: &UserName,
+    body: &[u8],
+) -> Result<Call, BadCall>
     ensures call { (d : Data) → IsJson body.now d
-        → IsToldUnless BadCall.NoMemory result (call_of route.now caller.now (Some d)) }
+        → IsToldUnless BadCall.NoMemory result
+        (of_object route.now caller.now (object_in (Some d))) }
     ensures none { ((d : Data) → ¬ IsJson body.now d)
-        → IsToldUnless BadCall.NoMemory result (call_of route.now caller.now None) }
+        → IsToldUnless BadCall.NoMemory result (Err (no_call route.now.operation)) }
     ensures json { OnOk result ((d : Data) × IsJson body.now d) }
     ensures meant { IfOk result IsMeantCall }
 {
@@ -65,9 +82,19 @@ fn read_bytes(alloc: Global, route: &Route, caller: &UserName, body: &[u8]) -> R
     }
 }
 
+// The call that the empty object is.
+fn read_without_body(alloc: Global, route: &Route, caller: &UserName) -> Result<Call, BadCall>
+    ensures call { IsToldUnless BadCall.NoMemory result
+        (of_object route.now caller.now (Some (object no_members))) }
+    ensures meant { IfOk result IsMeantCall }
+{
+    let nothing = Json::Object(Map::new(alloc));
+    read_object(alloc, route, caller, &nothing)
+}
+
 /// The call that a body is by its route, where `caller` makes it. The error is the first of
 /// `BadCall`, in its order; of the members of a call each is looked at in turn. Members that are not
-/// known are not looked at.
+/// known are not looked at, nor is the body of a GET, which means what the empty object means.
 pub fn read_call(
     alloc: Global,
     route: &Route,
@@ -83,5 +110,9 @@ pub fn read_call(
         → IsToldUnless BadCall.NoMemory result (call_of route.now caller.now None) }
     ensures meant { IfOk result IsMeantCall }
 {
-    read_bytes(alloc, route, caller, body)
+    if has_body(route.operation) {
+        read_with_body(alloc, route, caller, body)
+    } else {
+        read_without_body(alloc, route, caller)
+    }
 }

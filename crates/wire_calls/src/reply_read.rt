@@ -49,7 +49,7 @@ fn read_entries(
     requires { length items.now ≡ length asked.now }
     ensures { Tells
         (AreAnswersOf here.now.owner numbers_as_strings asked.now (map view items.now))
-        (IsFirstWrong here.now.owner numbers_as_strings 1 asked.now (map view items.now))
+        (IsFirstWrong here.now.owner numbers_as_strings asked.now (map view items.now))
         result }
 {
     let mut entries = Vec::new(alloc);

@@ -207,12 +207,20 @@ fn made_told(alloc: Global, board: &Solo) -> Result<String, AllocError> {
     or_nothing(told)
 }
 
-// `LOCK:SEAT.COUNT+COMMITS` for an event.
+// `LOCK:SEAT.COUNT+COMMITS` for commits that were made, `LOCK:SEAT.COUNT!BEFORE-AFTER` for a fault of the store.
 fn event_told(alloc: Global, lock: u8, event: &Event) -> Result<String, AllocError> {
     match event {
         Event::Made { origin, commits } => {
             let (seat, count, commits) = (origin.seat, origin.count, commits.len());
             format!(in alloc; "{lock}:{seat}.{count}+{commits}")
+        }
+        Event::StoreFailed {
+            origin,
+            before,
+            after,
+        } => {
+            let (seat, count) = (origin.seat, origin.count);
+            format!(in alloc; "{lock}:{seat}.{count}!{before}-{after}")
         }
     }
 }

@@ -19,8 +19,8 @@ use Rattle.zone_model.specs.Views.{view_of}
 use Rattle.zone_model.specs.Events.{log_of}
 use Rattle.zone_model.specs.Requests.{Caller}
 use Rattle.zone_model.specs.Modifying.{is_judged_as_one, modified_as_one, modified_apart, commits_of_request}
-use Rattle.zone_model.specs.PlainCreates.{IsOwner, is_plain_create}
-use Rattle.zone_model.specs.OnePuts.{IsOnePut, last_put}
+use Rattle.plain_creates.specs.PlainCreates.{IsOwner, is_plain_create}
+use Rattle.plain_creates.specs.OnePuts.{IsOnePut, last_put}
 use Rattle.zone_laws.proofs.LegalLaws.{histories_legal}
 use Rattle.zone_laws.proofs.OnePutLaws.{puts_found}
 use Rattle.drawn_names.specs.Drawing.{named_ops}
@@ -29,7 +29,7 @@ use Rattle.board_model.specs.declared.parts.Part.TheVariants.{Modify, Lookup}
 use Rattle.board_model.specs.declared.answers.Answer.{Answer}
 use Rattle.board_model.specs.declared.answers.Answer.TheVariants.{Modify as ModifyAnswer, Lookup as LookupAnswer, NoZone}
 use Rattle.board_model.specs.Sights.{OpSight, op_sight, sights_of, outcomes_as_one, outcomes_apart, outcomes_by}
-use Rattle.board_model.specs.Asks.{caller_in, guids_at, sight, answer, commits_by, event_of, made, makes}
+use Rattle.board_model.specs.Asks.{stored, caller_in, guids_at, sight, answer, commits_by, event_of, made, makes}
 use Rattle.board_model.specs.Parts.{MayBeAsked}
 use Rattle.zone_board.specs.declared.create.Asking.{Asking}
 use Rattle.zone_board.specs.Kept.{IsKept, IsCreation}
@@ -141,20 +141,20 @@ module _ (lock : ℕ) (events : List Event) (part : Part) (may : MayBeAsked lock
         is_told ∙ ap (λ (m : Modified). ModifyAnswer m.outcomes) done_is
         ∙ sym (ap (λ p. answer lock (sight lock events p) p) part_is ∙ told events user key mine.0.by_owner mine.0.in_default ones atomic ops moment words mine.1.plain lock)
 
-    pub modify_made : (seat : ℕ) (new : List Event) → new ≡ events ++ event_of seat events its_done.commits → new ≡ events ++ made lock seat events part
-    modify_made seat new new_is = new_is ∙ ap (λ cs. events ++ event_of seat events cs) commits_are
+    pub modify_made : (seat : ℕ) (new : List Event) → new ≡ events ++ event_of stored seat events its_done.commits → new ≡ events ++ made stored lock seat events part
+    modify_made seat new new_is = new_is ∙ ap (λ cs. events ++ event_of stored seat events cs) commits_are
 
     pub modify_makes : (event : Bool) → event ≡ makes its_done.commits → event ≡ makes (commits_by lock events part)
     modify_makes event event_is = event_is ∙ ap makes commits_are
 
     -- the history stays as it is to be
-    pub modify_keeps : (seat : ℕ) (new : List Event) → AllByRecursion (IsCreation key) its_done.commits → new ≡ events ++ event_of seat events its_done.commits → IsKept lock events → IsKept lock new
+    pub modify_keeps : (seat : ℕ) (new : List Event) → AllByRecursion (IsCreation key) its_done.commits → new ≡ events ++ event_of stored seat events its_done.commits → IsKept lock events → IsKept lock new
     modify_keeps seat new formed new_is kept =
         let mine = subst (MayBeAsked lock) is may in
         let caller = caller_in user Private key in
         let named = named_ops ops words in
         let all_formed : AllByRecursion (IsCreation key) all_apart.commits = subst (λ (m : Modified). AllByRecursion (IsCreation key) m.commits) done_is formed in
-        let grown : new ≡ events ++ event_of seat events all_apart.commits = new_is ∙ ap (λ (m : Modified). events ++ event_of seat events m.commits) done_is in
+        let grown : new ≡ events ++ event_of stored seat events all_apart.commits = new_is ∙ ap (λ (m : Modified). events ++ event_of stored seat events m.commits) done_is in
         let few : length all_apart.commits ≤ 200 = omega (arith, few_made caller moment named (log_of events) [], length_named ops words, mine.1.meant.few) in
         let lawful = lawful_made caller moment (log_of events) named (histories_legal.lawful lock events kept.legal) (default_there (log_of events) key mine.0.in_default ones) (plain_named ops words mine.1.plain) in
         subst (IsKept lock) (sym grown) (kept_more lock seat events key all_apart.commits kept mine.0.of_lock all_formed few lawful)

@@ -16,8 +16,8 @@ use Rattle.zone_model.specs.declared.outcomes.OpFault.TheVariants.{Exists, BadRe
 use Rattle.zone_model.specs.declared.outcomes.Outcome.TheVariants.{Put, Refused}
 use Rattle.zone_model.specs.Records.{is_there}
 use Rattle.zone_model.specs.Zones.{zone_at, puts_at}
-use Rattle.zone_model.specs.PlainCreates.{IsOwner, is_plain_create, is_too_large, created_record, refusal_of_create}
-use Rattle.zone_model.specs.OnePuts.{IsOnePut, last_put}
+use Rattle.plain_creates.specs.PlainCreates.{IsOwner, is_plain_create, is_too_large, created_record, refusal_of_create}
+use Rattle.plain_creates.specs.OnePuts.{IsOnePut, last_put}
 use Rattle.zone_laws.proofs.PlainLaws.{creates_done, creates_in_form}
 use Rattle.zone_laws.proofs.OnePutLaws.{puts_found}
 use Rattle.zone_board.specs.declared.create.Asking.{Asking}

@@ -12,7 +12,7 @@ use Rattle.record_model.specs.RecordSizes.{size_of_record}
 use Rattle.zone_model.specs.Limits.{most_record_size}
 use Rattle.zone_model.specs.Names.{same}
 use Rattle.zone_model.specs.Putting.{after_wish, after_wishes}
-use Rattle.zone_model.specs.PlainCreates.{drafted_record, created_record, is_too_large}
+use Rattle.plain_creates.specs.PlainCreates.{drafted_record, created_record, is_too_large}
 use Rattle.zone_laws.proofs.NameLaws.{before-asym, same-sym_false}
 use Rattle.zone_laws.proofs.RecordLaws.{before_differs}
 use Rattle.drawn_names.specs.Drawing.{draft_with}

@@ -9,7 +9,7 @@ use Rattle.zone_model.specs.declared.commits.Commit.{Commit}
 use Rattle.zone_model.specs.Options.{or_else}
 use Rattle.zone_model.specs.Records.{is_there}
 use Rattle.zone_model.specs.Zones.{zone_at}
-use Rattle.zone_model.specs.OnePuts.{put_by, last_put, IsOnePut}
+use Rattle.plain_creates.specs.OnePuts.{put_by, last_put, IsOnePut}
 use Rattle.zone_laws.proofs.OnePutLaws.{puts_found}
 
 some_mapped : {X Y : Type 0} (f : X → Y) (o : Option X) → is_some o ≡ is_some (option_map f o)

@@ -22,11 +22,11 @@ use Rattle.zone_model.specs.Modifying.{request_at, judgement_at, effect_at, modi
 use Rattle.zone_model.specs.Lawful.{are_lawful}
 use Rattle.zone_model.specs.Form.{IsInForm}
 use Rattle.zone_model.specs.Legal.{are_of_lock, is_legal_event}
-use Rattle.zone_model.specs.PlainCreates.{is_plain_create}
-use Rattle.zone_model.specs.OnePuts.{IsOnePut}
+use Rattle.plain_creates.specs.PlainCreates.{is_plain_create}
+use Rattle.plain_creates.specs.OnePuts.{IsOnePut}
 use Rattle.zone_laws.proofs.LawfulLaws.{effects_lawful}
 use Rattle.zone_laws.proofs.LegalLaws.{histories_legal}
-use Rattle.board_model.specs.Asks.{event_of}
+use Rattle.board_model.specs.Asks.{stored, event_of}
 use Rattle.zone_board.specs.Kept.{IsKept, IsCreation}
 use Rattle.zone_board.proofs.PlainLemmas.{all_joined, all_weaker, no_roots}
 
@@ -63,7 +63,7 @@ log_more es e = sym (flat_map-append commits_of es (e ∷ []) ∙ ap (λ cs. log
 
 -- lawful creations, 200 at most, keep the history as it is to be
 pub kept_more : (lock seat : ℕ) (events : List Event) (key : ZoneKey) (cs : List Commit) → IsKept lock events → lock_of_names key.owner key.zone ≡ lock → AllByRecursion (IsCreation key) cs → length cs ≤ 200
-    → are_lawful (log_of events) cs ≡ true → IsKept lock (events ++ event_of seat events cs)
+    → are_lawful (log_of events) cs ≡ true → IsKept lock (events ++ event_of stored seat events cs)
 kept_more lock seat events key [] kept at formed few lawful = subst (IsKept lock) (sym (append-nil events)) kept
 kept_more lock seat events key (c ∷ cs) kept at formed few lawful =
     let e : Event = Made (record { seat = seat; count = suc (length (own seat events)) }) (c ∷ cs) in

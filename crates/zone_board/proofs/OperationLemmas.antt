@@ -9,8 +9,8 @@ use Rattle.zone_model.specs.declared.commits.Commit.{Commit}
 use Rattle.zone_model.specs.declared.outcomes.Outcome.{Outcome}
 use Rattle.zone_model.specs.declared.outcomes.Modified.{Modified}
 use Rattle.zone_model.specs.Modifying.{modified_apart}
-use Rattle.zone_model.specs.OnePuts.{IsOnePut}
-use Rattle.zone_model.specs.PlainCreates.{is_plain_create}
+use Rattle.plain_creates.specs.OnePuts.{IsOnePut}
+use Rattle.plain_creates.specs.PlainCreates.{is_plain_create}
 use Rattle.drawn_names.specs.Drawing.{words_for, words_drawn, first_word, words_after, with_name, named_by, named_ops}
 use Rattle.zone_model.specs.OpForms.{IsMeantOp}
 use Rattle.zone_board.specs.declared.create.Asking.{Asking}

@@ -9,7 +9,7 @@ use Rattle.zone_model.specs.declared.operations.OpKind.{OpKind}
 use Rattle.zone_model.specs.declared.operations.OpKind.TheVariants.{Create, Update, ForceUpdate, Replace, ForceReplace, Delete, ForceDelete}
 use Rattle.zone_model.specs.declared.operations.Op.{Op}
 use Rattle.zone_model.specs.Requests.{Putting, is_create, is_deletion, draws_guid, guids_left, first_guid, puts_in, root_given, has_share_type}
-use Rattle.zone_model.specs.PlainCreates.{gives_no_parent, gives_no_share, is_plain_create}
+use Rattle.plain_creates.specs.PlainCreates.{gives_no_parent, gives_no_share, is_plain_create}
 use Rattle.drawn_names.specs.Drawing.{draws_name, one_if, name_of_word, guid_of_word, first_word, words_after, named_by, named_ops, guids_of}
 
 pub all_joined : {X : Type 0} (P : X → Type 0) (xs ys : List X) → AllByRecursion P xs → AllByRecursion P ys → AllByRecursion P (xs ++ ys)

@@ -23,8 +23,8 @@ use Rattle.zone_model.specs.Past.{past_of, name_history}
 use Rattle.zone_model.specs.Requests.{Caller, Putting, name_of_op, name_of_put, guids_left, is_deletion}
 use Rattle.zone_model.specs.Effect.{Request, working, stamp, stamped}
 use Rattle.zone_model.specs.Modifying.{request_at, judgement_at, done, outcome_of, effect_at, modified_as_one, modified_apart}
-use Rattle.zone_model.specs.PlainCreates.{IsOwner, is_plain_create, refusal_of_create}
-use Rattle.zone_model.specs.OnePuts.{only_put, IsOnePut}
+use Rattle.plain_creates.specs.PlainCreates.{IsOwner, is_plain_create, refusal_of_create}
+use Rattle.plain_creates.specs.OnePuts.{only_put, IsOnePut}
 use Rattle.zone_laws.proofs.NameLaws.{same-refl, same-true}
 use Rattle.zone_laws.proofs.RecordLaws.{found-name}
 use Rattle.zone_laws.proofs.PlainLaws.{creates_done}
@@ -99,7 +99,12 @@ module _ (caller : Caller) (own : IsOwner caller) where
     placed_alike (Some r) e = ap Put (stamped_alike r (same-true its_name r.name (found-name (working at_log) its_name r e)))
 
     done_alike : done as_seen op ≡ done at_log op
-    done_alike = ap (λ o. if is_deletion op.kind then Deleted its_name else o) (placed_alike (record_at (working at_log) its_name) refl)
+    done_alike = alike_where (is_deletion op.kind)
+      where
+        alike_where : (d : Bool) → option_map_or (λ r. Put (stamped as_seen r)) (if d then None else record_at (working at_log) its_name) (Deleted its_name)
+            ≡ option_map_or (λ r. Put (stamped at_log r)) (if d then None else record_at (working at_log) its_name) (Deleted its_name)
+        alike_where true = refl
+        alike_where false = placed_alike (record_at (working at_log) its_name) refl
 
     outcome_alike : (judged : Option OpFault) → outcome_of as_seen (op, judged) ≡ outcome_of at_log (op, judged)
     outcome_alike (Some fault) = refl

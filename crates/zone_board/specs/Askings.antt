@@ -9,7 +9,7 @@ use Rattle.zone_model.specs.Names.{is_default}
 use Rattle.zone_model.specs.Form.{IsKey}
 use Rattle.zone_model.specs.Requests.{Caller}
 use Rattle.zone_model.specs.Modifying.{modified_as_one, modified_apart}
-use Rattle.zone_model.specs.OnePuts.{commit_of_put}
+use Rattle.plain_creates.specs.OnePuts.{commit_of_put}
 use Rattle.zone_board.specs.declared.create.Asking.{Asking}
 
 abbrev pub caller_of : Asking → Caller

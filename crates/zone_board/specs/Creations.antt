@@ -4,7 +4,7 @@ use Rattle.record_model.specs.declared.value.Value.{Value}
 use Rattle.record_model.specs.declared.draft.Draft.{Draft}
 use Rattle.record_model.specs.declared.records.Body.TheVariants.{Plain}
 use Rattle.record_model.specs.declared.records.Record.{Record}
-use Rattle.zone_model.specs.PlainCreates.{created_record, is_too_large}
+use Rattle.plain_creates.specs.PlainCreates.{created_record, is_too_large}
 
 -- the fields that a draft gives, in order
 abbrev pub given_field : List ℕ × Option Value → Option (List ℕ × Value)

@@ -7,7 +7,7 @@ use Rattle.zone_model.specs.declared.events.Event.{Event}
 use Rattle.zone_model.specs.Events.{log_of}
 use Rattle.zone_model.specs.Form.{IsInForm}
 use Rattle.zone_model.specs.Legal.{IsLegal}
-use Rattle.zone_model.specs.OnePuts.{IsOnePut}
+use Rattle.plain_creates.specs.OnePuts.{IsOnePut}
 
 -- the history is legal, and each of its commits puts one record
 pub record IsKept (lock : ℕ) (events : List Event) : Type 0 where

@@ -3,8 +3,8 @@ ghost use Rattle.std.specs.Prelude.{◌≡◌, ◌<◌, ◌++◌, ◌∷◌, [],
 ghost use Rattle.std.specs.List.{AllByRecursion};
 ghost use Rattle.record_model.specs.DraftForms.{IsMeantDraft, AreWishes};
 ghost use Rattle.zone_model.specs.Events.{log_of};
-ghost use Rattle.zone_model.specs.OnePuts.{IsOnePut};
-ghost use Rattle.zone_model.specs.PlainCreates.{is_plain_create};
+ghost use Rattle.plain_creates.specs.OnePuts.{IsOnePut};
+ghost use Rattle.plain_creates.specs.PlainCreates.{is_plain_create};
 ghost use Rattle.drawn_names.specs.Drawing.{draft_with, with_name};
 ghost use Rattle.zone_board.specs.Kept.{IsCreation};
 ghost use Rattle.zone_board.specs.Creations.{given_field, given_fields, first_of_type, first_record};

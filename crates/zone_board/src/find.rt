@@ -6,7 +6,7 @@ ghost use Rattle.zone_model.specs.Options.{or_else};
 ghost use Rattle.zone_model.specs.Events.{commits_of, log_of};
 ghost use Rattle.zone_model.specs.Records.{is_there};
 ghost use Rattle.zone_model.specs.Zones.{zone_at};
-ghost use Rattle.zone_model.specs.OnePuts.{only_put, put_by, last_put, IsOnePut};
+ghost use Rattle.plain_creates.specs.OnePuts.{only_put, put_by, last_put, IsOnePut};
 
 use ck_base::{Items, NoMemory, RecordName, ZoneKey};
 use record_model::{Record, copy_record};
@@ -55,6 +55,7 @@ fn commits_of(event: &Event) -> &[Commit]
 {
     match event {
         Event::Made { commits, .. } => commits.as_slice(),
+        Event::StoreFailed { .. } => &[],
     }
 }
 

@@ -1,11 +1,11 @@
 // One ask at the history of one lock.
-ghost use Rattle.std.specs.Prelude.{◌≡◌, ◌≤◌, ◌==◌, ◌++◌, length, IfOk, OnErr};
+ghost use Rattle.std.specs.Prelude.{◌≡◌, ◌≤◌, ◌==◌, [], ◌∷◌, ◌++◌, length, IfOk, OnErr};
 ghost use Rattle.std.specs.List.{AllByRecursion};
 ghost use Rattle.zone_model.specs.Events.{origin_of, log_of, own};
-ghost use Rattle.zone_model.specs.OnePuts.{IsOnePut};
+ghost use Rattle.plain_creates.specs.OnePuts.{IsOnePut};
 ghost use Rattle.drawn_names.specs.Drawing.{named_ops};
 ghost use Rattle.board_model.specs.Parts.{AreBuilt, MayBeAsked};
-ghost use Rattle.board_model.specs.Asks.{sight, answer, commits_by, event_of, made, makes};
+ghost use Rattle.board_model.specs.Asks.{stored, sight, answer, commits_by, event_of, made, makes};
 ghost use Rattle.zone_board.specs.Kept.{IsKept, IsCreation};
 ghost use Rattle.zone_board.specs.Askings.{all_done, IsOfOwner};
 
@@ -50,6 +50,7 @@ fn is_own(event: &Event, seat: u64) -> bool
 {
     match event {
         Event::Made { origin, .. } => origin.seat == seat,
+        Event::StoreFailed { origin, .. } => origin.seat == seat,
     }
 }
 
@@ -63,7 +64,7 @@ fn count_own(events: &[Event], seat: u64) -> u64
 
 // Adds the event of the commits, unless there are none.
 fn add_event(events: &mut Vec<Event>, seat: u64, commits: Vec<Commit>) -> Result<bool, NoMemory>
-    ensures added { IfOk result (λ _. events.new.items ≡ events.old.items ++ event_of seat events.old.items commits.items) }
+    ensures added { IfOk result (λ _. events.new.items ≡ events.old.items ++ event_of stored seat events.old.items commits.items) }
     ensures event { IfOk result (λ event. event ≡ makes commits.items) }
     ensures err { OnErr result (events.new.items ≡ events.old.items) }
 {
@@ -93,7 +94,7 @@ fn modify(
     requires own { IsOfOwner asking }
     requires puts { AllByRecursion IsOnePut (log_of events.now.items) }
     requires built { AreBuilt ops.now asking.moment words.now }
-    ensures made { IfOk result (λ _. events.new.items ≡ events.old.items ++ event_of seat events.old.items (all_done asking.entry (log_of events.old.items) (named_ops ops.now words.now)).commits) }
+    ensures made { IfOk result (λ _. events.new.items ≡ events.old.items ++ event_of stored seat events.old.items (all_done asking.entry (log_of events.old.items) (named_ops ops.now words.now)).commits) }
     ensures len { IfOk result (λ answered. answered.len ≡ length events.new.items) }
     ensures event { IfOk result (λ answered. answered.event ≡ makes (all_done asking.entry (log_of events.old.items) (named_ops ops.now words.now)).commits) }
     ensures answer { IfOk result (λ answered. answered.answer ≡ Answer.Modify (all_done asking.entry (log_of events.old.items) (named_ops ops.now words.now)).outcomes) }
@@ -109,9 +110,9 @@ fn modify(
     })
 }
 
-/// Answers a part at the history of its lock, and adds the event that it makes. Where memory runs
-/// out the history stays as it was.
-pub(crate) fn ask_stripe(
+// Answers a part at the history of its lock, and adds the event that it makes. Where memory runs
+// out the history stays as it was.
+fn ask_stripe(
     alloc: Global,
     events: &mut Vec<Event>,
     seat: u64,
@@ -120,7 +121,7 @@ pub(crate) fn ask_stripe(
 ) -> Result<Answered, AskFault>
     requires part { MayBeAsked lock part.now }
     requires puts { AllByRecursion IsOnePut (log_of events.now.items) }
-    ensures made { IfOk result (λ _. events.new.items ≡ events.old.items ++ made lock seat events.old.items part.now) }
+    ensures made { IfOk result (λ _. events.new.items ≡ events.old.items ++ made stored lock seat events.old.items part.now) }
     ensures len { IfOk result (λ answered. answered.len ≡ length events.new.items) }
     ensures event { IfOk result (λ answered. answered.event ≡ makes (commits_by lock events.old.items part.now)) }
     ensures answer { IfOk result (λ answered. answered.answer ≡ answer lock (sight lock events.old.items part.now) part.now) }
@@ -156,4 +157,49 @@ pub(crate) fn ask_stripe(
             event: false,
         }),
     }
+}
+
+/// What a board of one thread keeps of a lock: its events, and the lengths at which asks were answered.
+#[derive(Drop)]
+pub(crate) struct Stripe {
+    pub events: Vec<Event>,
+    pub turns: Vec<u64>,
+}
+
+impl Stripe {
+    /// Nothing has happened yet.
+    pub(crate) fn new(alloc: Global) -> Stripe
+        ensures events { result.events.items ≡ [] }
+        ensures turns { result.turns.items ≡ [] }
+    {
+        Stripe {
+            events: Vec::new(alloc),
+            turns: Vec::new(alloc),
+        }
+    }
+}
+
+/// Answers a part at the history of its lock as seat 0, adds the event that it makes, and counts the ask by the
+/// length at which it was answered. Where memory runs out both lists stay as they were.
+pub(crate) fn ask_counted(
+    alloc: Global,
+    stripe: &mut Stripe,
+    lock: u8,
+    part: &Part,
+) -> Result<Answered, AskFault>
+    requires part { MayBeAsked lock part.now }
+    requires puts { AllByRecursion IsOnePut (log_of stripe.now.events.items) }
+    ensures made { IfOk result (λ _. stripe.new.events.items ≡ stripe.old.events.items ++ made stored lock 0 stripe.old.events.items part.now) }
+    ensures len { IfOk result (λ answered. answered.len ≡ length stripe.new.events.items) }
+    ensures counted { IfOk result (λ answered. stripe.new.turns.items ≡ stripe.old.turns.items ++ answered.len ∷ []) }
+    ensures event { IfOk result (λ answered. answered.event ≡ makes (commits_by lock stripe.old.events.items part.now)) }
+    ensures answer { IfOk result (λ answered. answered.answer ≡ answer lock (sight lock stripe.old.events.items part.now) part.now) }
+    ensures err { OnErr result (stripe.new.events.items ≡ stripe.old.events.items) }
+    ensures uncounted { OnErr result (stripe.new.turns.items ≡ stripe.old.turns.items) }
+    ensures kept { IsKept lock stripe.old.events.items → IsKept lock stripe.new.events.items }
+{
+    stripe.turns.reserve(1)?;
+    let answered = ask_stripe(alloc, &mut stripe.events, 0, lock, part)?;
+    stripe.turns.push(answered.len).unwrap();
+    Ok(answered)
 }

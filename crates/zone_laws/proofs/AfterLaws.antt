@@ -150,7 +150,7 @@ leaving-kind q r = by (is_left q r)
     by false = refl
 
 -- a record is left as long as its kind stays
-left_same : (q : Request) (r : Record) → is_left q (after_leaving q r) ≡ is_left q r
+pub left_same : (q : Request) (r : Record) → is_left q (after_leaving q r) ≡ is_left q r
 left_same q r = ap (λ x. is_shared q.caller.scope && (is_in (names_deleted q.ops) x && (is_share (after_leaving q r) && is_there q.seen x))) (leaving-name q r)
     ∙ ap (λ b. is_shared q.caller.scope && (is_in (names_deleted q.ops) r.name && (b && is_there q.seen r.name))) (leaving-kind q r)
 

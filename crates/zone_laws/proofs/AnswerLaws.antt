@@ -18,7 +18,7 @@ use Rattle.zone_model.specs.Records.{record_at}
 use Rattle.zone_model.specs.Views.{is_empty, view_of}
 use Rattle.zone_model.specs.Past.{name_history}
 use Rattle.zone_model.specs.Grounds.{grounds_of}
-use Rattle.zone_model.specs.Judging.{faults_from, has_fault, together}
+use Rattle.zone_model.specs.Judging.{faults_of, has_fault, together}
 use Rattle.zone_model.specs.Effect.{Request, working, stamped, removed, writes, commits_with, effect}
 use Rattle.zone_model.specs.Modifying.{outcome_of, is_judged_as_one, request_at, judgement_at, effect_at, modified_as_one, modified_apart}
 use Rattle.zone_laws.specs.Answering.{is_refusal, EachIsAnswered}
@@ -68,7 +68,7 @@ module _ (caller : Caller) (moment : ℕ) where
 
 -- ---- refusals
 
-done_by : (q : Request) (op : Op) (d : Bool) (o : Option Record) → is_refusal (if d then Deleted (name_of_op op) else option_map_or (λ r. Put (stamped q r)) o (Deleted (name_of_op op))) ≡ false
+done_by : (q : Request) (op : Op) (d : Bool) (o : Option Record) → is_refusal (option_map_or (λ r. Put (stamped q r)) (if d then None else o) (Deleted (name_of_op op))) ≡ false
 done_by q op true o = refl
 done_by q op false None = refl
 done_by q op false (Some r) = refl
@@ -113,7 +113,7 @@ module _ (caller : Caller) (moment : ℕ) (log : List Commit) (ops : List Op) (g
       let fault = refused_some q ops (judgement_at caller moment log ops) e in
       let v = view_of log caller.user caller.scope caller.key in (
         ap (λ b. if b then [] else effect q) fault,
-        refused_all q ops (judgement_at caller moment log ops) (all-refused (faults_from (grounds_of caller (name_history log caller.key ops) v.rows ops) [] ops) fault),
+        refused_all q ops (judgement_at caller moment log ops) (all-refused (faults_of (grounds_of caller (name_history log caller.key ops) v.rows ops) ops) fault),
       )
 
   each_by : (b : Bool) → length (if b then modified_as_one caller moment log ops guids else modified_apart caller moment log ops guids).outcomes ≡ length ops

@@ -1,5 +1,5 @@
 -- A refusal shows a record where it is a conflict, and only there.
-use Rattle.std.proofs.Common.{◌≡◌, ◌∙◌, ℕ, suc, length, List, [], ◌∷◌, Bool, true, false, not, ◌||◌, refl, sym, ap, Option, Some, None, map, inl, inr, ⊎_elim}
+use Rattle.std.proofs.Common.{◌≡◌, ◌∙◌, ℕ, suc, length, List, [], ◌∷◌, Bool, true, false, not, ◌||◌, refl, sym, ap, subst, Option, Some, None, map, inl, inr, ⊎_elim}
 use Rattle.std.specs.Prelude.{zip, is_some, if◌then◌else◌, unwrap_or, option_and_then}
 use Rattle.std.specs.Option.{option_map_or}
 use Rattle.std.specs.List.{AllByRecursion}
@@ -17,7 +17,8 @@ use Rattle.zone_model.specs.Requests.{Putting, is_deletion, is_forced, begins_sh
 use Rattle.zone_model.specs.Grounds.{Grounds, grounds_of, is_stale, first_fault}
 use Rattle.zone_model.specs.PutChecks.{old, begins, root_seen, fault_of_put}
 use Rattle.zone_model.specs.DeletionChecks.{fault_of_deletion}
-use Rattle.zone_model.specs.Judging.{faults_from, has_fault, together}
+use Rattle.zone_model.specs.Judging.{faults_of, has_fault, together}
+use Rattle.zone_laws.proofs.JudgedLaws.{faults_from, faults_told}
 use Rattle.zone_model.specs.Effect.{Request, working, stamped}
 use Rattle.zone_model.specs.Modifying.{done, outcome_of}
 use Rattle.zone_laws.specs.Laws.{ConflictsShowRecords, EachIsJudged, IsShown, ShowsConflict}
@@ -41,7 +42,7 @@ none_shown {r} e = both_ways (is_some (Some r)) (ap is_some (sym e)) refl
 done_shows_none : (q : Request) (op : Op) → server_in (done q op) ≡ None
 done_shows_none q op = by_kind (is_deletion op.kind) (record_at (working q) (name_of_op op))
   where
-    by_kind : (b : Bool) (found : Option Record) → server_in (if b then Deleted (name_of_op op) else option_map_or (λ r. Put (stamped q r)) found (Deleted (name_of_op op))) ≡ None
+    by_kind : (b : Bool) (found : Option Record) → server_in (option_map_or (λ r. Put (stamped q r)) (if b then None else found) (Deleted (name_of_op op))) ≡ None
     by_kind true found = refl
     by_kind false None = refl
     by_kind false (Some r) = refl
@@ -199,7 +200,8 @@ together_show q ops faults all = by_fault (has_fault faults)
 pub conflicts_shown : ConflictsShowRecords
 conflicts_shown = record {
   only = only;
-  each = λ q view pasts ops caller same. together_show q ops _ (faults_show q (grounds_of caller pasts view.rows ops) same [] ops);
+  each = λ q view pasts ops caller same. (let g = grounds_of caller pasts view.rows ops in
+      together_show q ops (faults_of g ops) (subst (λ fs. AllByRecursion (ShowsConflict q) (zip ops fs)) (sym (faults_told g ops)) (faults_show q g same [] ops)));
 }
 
 -- ---- each operation is judged
@@ -221,4 +223,5 @@ together_are_all faults = by_fault (has_fault faults)
     by_fault false = refl
 
 pub all_judged : EachIsJudged
-all_judged view pasts ops caller = together_are_all (faults_from (grounds_of caller pasts view.rows ops) [] ops) ∙ faults_are_all (grounds_of caller pasts view.rows ops) [] ops
+all_judged view pasts ops caller = (let g = grounds_of caller pasts view.rows ops in
+    together_are_all (faults_of g ops) ∙ ap length (faults_told g ops) ∙ faults_are_all g [] ops)

@@ -10,7 +10,7 @@ use Rattle.zone_model.specs.declared.commits.Write.TheVariants.{Put, Remove, Put
 use Rattle.zone_model.specs.Names.{is_in}
 use Rattle.zone_model.specs.Records.{names_in, IsAscending, with_record}
 use Rattle.zone_model.specs.Zones.{written_name}
-use Rattle.zone_model.specs.Effect.{Request, working, is_put, is_left, after_leaving, body_without, after_puts, removed, is_written, final, write_of}
+use Rattle.zone_model.specs.Effect.{Request, working, is_put, is_left, after_leaving, body_without, after_puts, removed, is_written, final, write_as, write_of}
 use Rattle.zone_model.specs.Form.{are_in_order}
 use Rattle.zone_model.specs.Modifying.{request_at}
 use Rattle.zone_model.specs.Lawful.{has_next_tag}
@@ -44,7 +44,7 @@ ascending-puts q ascend =
 
 module _ (q : Request) (gone : List (List ℕ)) where
   abbrev pub write_by : Bool → Bool → Record → Option Write
-  write_by goes written r = if goes then Some (if written then PutRemove r.name else Remove r.name) else (if written then Some (Put (final q gone r)) else None)
+  write_by goes written r = write_as goes written (final q gone r)
 
   all_step : (goes written : Bool) (p : List ℕ → Bool) (r : Record) (ws : List Write) → p r.name ≡ true → list_all p (map written_name ws) ≡ true
       → list_all p (map written_name (cons_option (write_by goes written r) ws)) ≡ true

@@ -16,11 +16,11 @@ use Rattle.zone_model.specs.References.{goes_with, wants, references_in, deletes
 use Rattle.zone_model.specs.Ancestry.{is_ancestor}
 use Rattle.name_rules.specs.Parents.{here}
 use Rattle.zone_model.specs.Requests.{Putting, name_of_put, puts_in, names_deleted}
-use Rattle.zone_model.specs.Working.{mark_of, with_puts, is_share_of}
+use Rattle.zone_model.specs.Working.{is_new_share_of, mark_of, with_puts, is_share_of}
 use Rattle.zone_model.specs.Grounds.{is_taken_by_deletion}
 use Rattle.zone_model.specs.DeletionChecks.{holds_back}
 use Rattle.zone_model.specs.Cascade.{takes_along}
-use Rattle.zone_model.specs.Effect.{Request, working, is_put, is_new_share_of, after_leaving, after_puts, removed}
+use Rattle.zone_model.specs.Effect.{Request, working, is_put, after_leaving, after_puts, removed}
 use Rattle.name_rules.proofs.NameLemmas.{same-true, same-refl, any-weaker, any-within}
 use Rattle.zone_laws.proofs.AncestryLaws.{is_ancestor_from}
 use Rattle.zone_laws.proofs.RecordLaws.{found-name}
@@ -53,7 +53,7 @@ module _ (q : Request) (pasts : List Past) (fine : IsFine q pasts) where
 
   put_none : (i : Option Putting) (x : List ℕ) → put_at (puts_in q.ops q.guids) x ≡ i → is_put q x ≡ false → i ≡ None
   put_none None x at off = refl
-  put_none (Some p) x at off = absurd (both_ways (is_put q x) off (or_left (list_any (λ (t : Putting). same x (name_of_put t)) (puts_in q.ops q.guids)) (list_any (is_new_share_of q x) (working q)) (any_put (puts_in q.ops q.guids) x p at)))
+  put_none (Some p) x at off = absurd (both_ways (is_put q x) off (or_left (list_any (λ (t : Putting). same x (name_of_put t)) (puts_in q.ops q.guids)) (list_any (is_new_share_of q.seen x) (working q)) (any_put (puts_in q.ops q.guids) x p at)))
 
   -- a name that is not put has no put
   pub no-put : (x : List ℕ) → is_put q x ≡ false → put_at (puts_in q.ops q.guids) x ≡ None

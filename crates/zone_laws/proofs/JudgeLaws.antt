@@ -17,11 +17,12 @@ use Rattle.name_rules.specs.Options.{is_some_and}
 use Rattle.zone_model.specs.Records.{record_at, is_there}
 use Rattle.zone_model.specs.Zones.{zone_at}
 use Rattle.zone_model.specs.Past.{past_of, name_history, is_taken}
-use Rattle.zone_model.specs.Requests.{Putting, is_deletion, name_of_op, name_of_put, puts_in, guids_left, draws_guid, deletions_in, names_deleted}
+use Rattle.zone_model.specs.Requests.{Putting, is_deletion, name_of_op, name_of_put, puts_in, guids_left, draws_guid, names_deleted}
 use Rattle.zone_model.specs.Grounds.{Grounds, first_fault}
 use Rattle.zone_model.specs.PutChecks.{is_in_view, is_hidden, has_shared_root, is_missing, is_in_conflict, lacks_type, turns_type, turns_parent, lacks_root, is_misplaced_share, is_of_share, has_share_members, has_refused_list, is_too_large, has_bad_form, is_denied, has_bad_parent, has_bad_root, is_dangling, is_name_taken, fault_of_put}
 use Rattle.zone_model.specs.DeletionChecks.{holds_back, fault_of_deletion, is_held_back, is_missing as lacks, is_in_conflict as is_in_conflict_with, is_denied as is_denied_deletion}
-use Rattle.zone_model.specs.Judging.{faults_from, has_fault, together}
+use Rattle.zone_model.specs.Judging.{faults_of, has_fault, together}
+use Rattle.zone_laws.proofs.JudgedLaws.{faults_from, faults_told}
 use Rattle.name_rules.proofs.NameLemmas.{same-true}
 use Rattle.zone_laws.proofs.WorkingLaws.{put_at}
 
@@ -142,18 +143,21 @@ passed-from g p earlier e =
       root_good = r.0;
     }
 
-pub put-passed : (g : Grounds) (ops : List Op) (x : List ℕ) (p : Putting) → has_fault (faults_from g [] ops) ≡ false → put_at (puts_in ops []) x ≡ Some p → Passed g p
-put-passed g ops x p none at = let one = put-passes g ops [] x p none at in passed-from g p one.0 one.1
+pub put-passed : (g : Grounds) (ops : List Op) (x : List ℕ) (p : Putting) → has_fault (faults_of g ops) ≡ false → put_at (puts_in ops []) x ≡ Some p → Passed g p
+put-passed g ops x p none at = let one = put-passes g ops [] x p (sym (ap has_fault (faults_told g ops)) ∙ none) at in passed-from g p one.0 one.1
 
 -- ---- deletions
 
 abbrev DeletionPasses : Grounds → List ℕ → Type 0
 DeletionPasses g x = (op : Op) × (name_of_op op ≡ x) × (fault_of_deletion g op ≡ None)
 
+abbrev deletions : List Op → List Op
+deletions ops = filter (λ (op : Op). is_deletion op.kind) ops
+
 deletion_step : (d : Bool) (g : Grounds) (op : Op) (ops : List Op) (earlier : List (List ℕ)) (x : List ℕ)
     → ((some : List (List ℕ)) → has_fault (faults_from g some ops) ≡ false → is_in (names_deleted ops) x ≡ true → DeletionPasses g x)
     → has_fault (if d then fault_of_deletion g op ∷ faults_from g earlier ops else fault_of_put g (bare op) earlier ∷ faults_from g (name_of_op op ∷ earlier) ops) ≡ false
-    → is_in (map name_of_op (cond d (op ∷ deletions_in ops) (deletions_in ops))) x ≡ true → DeletionPasses g x
+    → is_in (map name_of_op (cond d (op ∷ deletions ops) (deletions ops))) x ≡ true → DeletionPasses g x
 deletion_step true g op ops earlier x more none at =
     let parts = or_parts (is_some (fault_of_deletion g op)) _ none in
     ⊎_elim (λ (s : same x (name_of_op op) ≡ true). (op, sym (same-true x (name_of_op op) s), none_is (fault_of_deletion g op) parts.0))
@@ -170,9 +174,9 @@ unheld_from g op e taken =
     ap (λ b. b && list_any (holds_back g (name_of_op op)) g.working) (sym taken) ∙ passed
 
 -- nothing holds back a name that a deletion takes
-pub taken-unheld : (g : Grounds) (ops : List Op) (x : List ℕ) → has_fault (faults_from g [] ops) ≡ false → is_in (names_deleted ops) x ≡ true → is_in g.taken x ≡ true → list_any (holds_back g x) g.working ≡ false
+pub taken-unheld : (g : Grounds) (ops : List Op) (x : List ℕ) → has_fault (faults_of g ops) ≡ false → is_in (names_deleted ops) x ≡ true → is_in g.taken x ≡ true → list_any (holds_back g x) g.working ≡ false
 taken-unheld g ops x none deleted taken =
-    let one = deletion-passes g ops [] x none deleted in
+    let one = deletion-passes g ops [] x (sym (ap has_fault (faults_told g ops)) ∙ none) deleted in
     subst (λ y. list_any (holds_back g y) g.working ≡ false) one.1 (unheld_from g one.0 one.2 (subst (λ y. is_in g.taken y ≡ true) (sym one.1) taken))
 
 in_filter_step : (b : Bool) (p : List ℕ → Bool) (y x : List ℕ) (ys zs : List (List ℕ)) → p y ≡ b → (is_in ys x ≡ true → (is_in zs x ≡ true) × (p x ≡ true)) → is_in (cond b (y ∷ ys) ys) x ≡ true

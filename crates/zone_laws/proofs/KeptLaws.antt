@@ -15,9 +15,10 @@ use Rattle.zone_model.specs.Past.{is_taken}
 use Rattle.zone_model.specs.Putting.{new_record}
 use Rattle.zone_model.specs.Grounds.{Grounds, grounds_of}
 use Rattle.zone_model.specs.PutChecks.{is_new}
-use Rattle.zone_model.specs.Judging.{faults_from, has_fault}
+use Rattle.zone_model.specs.Judging.{faults_of, has_fault}
 use Rattle.zone_model.specs.Lawful.{fits_in, are_well_formed}
-use Rattle.zone_model.specs.Effect.{Request, working, is_put, is_new_share_of, after_leaving, after_puts}
+use Rattle.zone_model.specs.Working.{is_new_share_of}
+use Rattle.zone_model.specs.Effect.{Request, working, is_put, after_leaving, after_puts}
 use Rattle.name_rules.proofs.NameLemmas.{same-true}
 use Rattle.zone_laws.proofs.RecordLaws.{none-some, found-all}
 use Rattle.zone_laws.proofs.WorkingLaws.{put_at, put_over, blank, blank-put}
@@ -36,7 +37,7 @@ pub record IsFine (q : Request) (pasts : List Past) : Type 0 where
   pub rows_in_order : IsAscending q.rows
   pub formed : are_well_formed q.rows ≡ true
   pub part : IsPart q.seen q.rows
-  pub judged : has_fault (faults_from (ground q pasts) [] q.ops) ≡ false
+  pub judged : has_fault (faults_of (ground q pasts) q.ops) ≡ false
   pub history : (x : List ℕ) (p : Putting) → put_at (puts_in q.ops []) x ≡ Some p → is_taken pasts x ≡ is_there q.rows x
   pub roots : has_twice (roots_in q.ops) ≡ false
 
@@ -191,7 +192,7 @@ module _ (q : Request) (pasts : List Past) (fine : IsFine q pasts) where
       record { row = old.row; at = old.at; parent = old.parent ∙ sym c.parent; root = old.root ∙ sym c.root }
   reached_by None x w unseen is =
       let new = new-in-working x w unseen is in
-      let put : is_put q x ≡ true = or_left (list_any (λ (t : Putting). same x (name_of_put t)) (puts_in q.ops q.guids)) (list_any (is_new_share_of q x) (working q)) (any_put (puts_in q.ops q.guids) x new.put new.at) in
+      let put : is_put q x ≡ true = or_left (list_any (λ (t : Putting). same x (name_of_put t)) (puts_in q.ops q.guids)) (list_any (is_new_share_of q.seen x) (working q)) (any_put (puts_in q.ops q.guids) x new.put new.at) in
       record {
         row = after_leaving q w;
         at = after_is true (Some w) None x put is new.absent;

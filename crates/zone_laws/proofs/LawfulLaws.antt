@@ -21,8 +21,8 @@ use Rattle.name_rules.specs.Parents.{here, up}
 use Rattle.zone_model.specs.Views.{is_empty}
 use Rattle.zone_model.specs.Past.{name_history}
 use Rattle.zone_model.specs.Requests.{roots_in, Caller, Putting, is_deletion, first_guid, guids_left, root_given}
-use Rattle.zone_model.specs.Working.{is_share_of, new_share_of, loses_mark}
-use Rattle.zone_model.specs.Judging.{faults_from, has_fault}
+use Rattle.zone_model.specs.Working.{is_share_of, loses_mark}
+use Rattle.zone_model.specs.Judging.{faults_of, has_fault}
 use Rattle.zone_model.specs.Grounds.{grounds_of}
 use Rattle.zone_model.specs.Effect.{Request, working, is_put, after_leaving, after_puts, removed, is_unmarked, is_written, write_of, writes, effect}
 use Rattle.zone_model.specs.Modifying.{request_at, judgement_at, effect_at, modified_as_one, modified_apart}
@@ -44,7 +44,7 @@ use Rattle.zone_laws.proofs.KeptLaws.{IsFine, old-after, after_is, reached, fits
 use Rattle.zone_laws.proofs.ParentLaws.{from_parent_at, to_parent_at, after_in_order, parent-there, no-ring}
 use Rattle.zone_laws.proofs.HoldLaws.{parent-stays}
 use Rattle.zone_laws.proofs.MarkLaws.{none_name, any-from, some-same}
-use Rattle.zone_laws.proofs.RootLaws.{put_rows, unmarked, new_mark, row_seen, row_new, leaving-share, root-stays, root-marked, root-there, share-parent}
+use Rattle.zone_laws.proofs.RootLaws.{new_share_of, mark_is, put_rows, unmarked, new_mark, row_seen, row_new, leaving-share, root-stays, root-marked, root-there, share-parent}
 use Rattle.zone_laws.proofs.SizeLaws.{within-same, within-after}
 
 -- ---- tests of writes
@@ -98,7 +98,7 @@ module _ (q : Request) (pasts : List Past) (fine : IsFine q pasts) where
       let r = unmarked q pasts fine x w is in
       let name : r.0.name ≡ x = sym (same-true x r.0.name (found-name (put_rows q pasts fine) x r.0 r.1)) in
       let e : or_else (new_share_of q.seen (put_rows q pasts fine) x) (if loses_mark q.caller.scope q.seen q.ops x then None else r.0.share) ≡ Some y =
-      sym (ap (λ (u : Record). u.share) (sym r.2) ∙ ap (λ n. or_else (new_share_of q.seen (put_rows q pasts fine) n) (if loses_mark q.caller.scope q.seen q.ops n then None else r.0.share)) name) ∙ share in
+      sym (ap (λ (u : Record). u.share) (sym r.2) ∙ mark_is q.caller.scope q.seen q.ops (put_rows q pasts fine) r.0 ∙ ap (λ n. or_else (new_share_of q.seen (put_rows q pasts fine) n) (if loses_mark q.caller.scope q.seen q.ops n then None else r.0.share)) name) ∙ share in
       ⊎_elim
       (λ (n : new_share_of q.seen (put_rows q pasts fine) x ≡ Some y). let m = new_mark q pasts fine x y n in let t = reached q pasts fine y m.0 m.1 in (t.row, t.at, t.root ∙ m.3))
       (λ (s : r.0.share ≡ Some y). row_mark (record_at q.seen x) x y r.0 refl r.1 s)
@@ -253,7 +253,7 @@ module _ (caller : Caller) (moment : ℕ) (log : List Commit) (ops : List Op) (g
     rows_in_order = ascending-zone log caller.key;
     formed = well-formed log caller.key lawful;
     part = view-part log caller.user caller.scope caller.key;
-    judged = none-refused (faults_from (grounds_of caller pasts_of request.seen ops) [] ops) judged;
+    judged = none-refused (faults_of (grounds_of caller pasts_of request.seen ops) ops) judged;
     history = past-taken log caller.key ops;
     roots = roots;
   }

@@ -3,12 +3,14 @@ use Rattle.std.proofs.Common.{◌≡◌, ℕ, List, [], ◌∷◌, ◌++◌, tru
 use Rattle.std.specs.Prelude.{nat_lt, nat_le}
 use Rattle.std.proofs.lemmas.Grind.{flat_map-append}
 use Rattle.std.proofs.lemmas.Bool.{and_from, and_parts}
+use Rattle.zone_model.specs.declared.commits.Commit.{Commit}
 use Rattle.zone_model.specs.declared.events.Event.{Event}
+use Rattle.zone_model.specs.declared.events.Event.TheVariants.{Made, StoreFailed}
 use Rattle.zone_model.specs.Events.{commits_of, log_of}
 use Rattle.std.specs.List.{AllByRecursion}
 use Rattle.zone_model.specs.Form.{IsInForm}
 use Rattle.zone_model.specs.Lawful.{are_lawful}
-use Rattle.zone_model.specs.Legal.{are_of_lock, are_legal_commits, is_legal_event, are_legal, is_legal}
+use Rattle.zone_model.specs.Legal.{are_of_lock, are_legal_commits, is_allowed, is_legal_event, are_legal, is_legal}
 use Rattle.zone_laws.specs.Laws.{HistoriesStayLegal}
 use Rattle.zone_laws.proofs.LawfulLaws.{lawful-append}
 use Rattle.zone_laws.proofs.FormLaws.{every-append}
@@ -24,17 +26,23 @@ are_legal-snoc lock before (x ∷ es) e all one =
 pub legal-snoc : (lock : ℕ) (es : List Event) (e : Event) → is_legal lock es ≡ true → is_legal_event lock es e ≡ true → is_legal lock (es ++ e ∷ []) ≡ true
 legal-snoc lock es e all one = are_legal-snoc lock [] es e all one
 
+-- the commits of an event that may follow are lawful
+lawful_one : (lock : ℕ) (before : List Event) (e : Event) → are_lawful [] (log_of before) ≡ true → is_allowed lock before e ≡ true → are_lawful [] (log_of before ++ commits_of e) ≡ true
+lawful_one lock before (Made origin cs) lawful allowed =
+    let b = and_parts (nat_lt 0 (length cs)) _ allowed in
+    let c = and_parts (nat_le (length cs) 200) _ b.1 in
+    let d = and_parts (are_of_lock lock cs) _ c.1 in
+    lawful-append [] (log_of before) cs lawful d.1
+lawful_one lock before (StoreFailed origin from to) lawful allowed = subst (λ l. are_lawful [] l ≡ true) (sym (append-nil (log_of before))) lawful
+
 lawful_on : (lock : ℕ) (before es : List Event) → are_lawful [] (log_of before) ≡ true → are_legal lock before es ≡ true → are_lawful [] (log_of (before ++ es)) ≡ true
 lawful_on lock before [] lawful all = subst (λ b. are_lawful [] (log_of b) ≡ true) (sym (append-nil before)) lawful
 lawful_on lock before (e ∷ es) lawful all =
     let h = and_parts (is_legal_event lock before e) (are_legal lock (before ++ e ∷ []) es) all in
-    let a = and_parts _ (are_legal_commits lock (log_of before) (commits_of e)) h.0 in
-    let b = and_parts (nat_lt 0 (length (commits_of e))) _ a.1 in
-    let c = and_parts (nat_le (length (commits_of e)) 200) _ b.1 in
-    let d = and_parts (are_of_lock lock (commits_of e)) _ c.1 in
+    let a = and_parts _ (is_allowed lock before e) h.0 in
     let log : log_of before ++ commits_of e ≡ log_of (before ++ e ∷ []) = sym (flat_map-append commits_of before (e ∷ []) ∙ ap (λ cs. log_of before ++ cs) (append-nil (commits_of e))) in
     subst (λ b. are_lawful [] (log_of b) ≡ true) (append_assoc before (e ∷ []) es)
-    (lawful_on lock (before ++ e ∷ []) es (subst (λ l. are_lawful [] l ≡ true) log (lawful-append [] (log_of before) (commits_of e) lawful d.1)) h.1)
+    (lawful_on lock (before ++ e ∷ []) es (subst (λ l. are_lawful [] l ≡ true) log (lawful_one lock before e lawful a.1)) h.1)
 
 -- the commits of one event more
 log-snoc : (es : List Event) (e : Event) → log_of es ++ commits_of e ≡ log_of (es ++ e ∷ [])

@@ -24,6 +24,8 @@ pub mod WorkingLaws
 pub mod AfterLaws
 -- zones after lawful commits
 pub mod FormedLaws
+-- the faults of operations, one after another
+pub mod JudgedLaws
 -- requests in which no check fails
 pub mod JudgeLaws
 -- what puts keep of records
@@ -78,3 +80,5 @@ pub mod AnswerLaws
 pub mod WrittenLaws
 -- something is committed just where some outcome tells of something written
 pub mod MadeLaws
+-- what outcomes show of deletions
+pub mod DeletionLaws

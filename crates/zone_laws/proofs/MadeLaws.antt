@@ -20,12 +20,12 @@ use Rattle.zone_model.specs.Views.{is_empty, view_of}
 use Rattle.zone_model.specs.Past.{name_history}
 use Rattle.zone_model.specs.Requests.{Caller, Putting, is_deletion, makes_new, name_of_op, name_of_put, first_guid, puts_in, guids_left, roots_in, names_deleted}
 use Rattle.zone_model.specs.Putting.{new_record, written_over, records_written}
-use Rattle.zone_model.specs.Working.{is_share_of, with_puts, mark_of}
+use Rattle.zone_model.specs.Working.{is_new_share_of, is_share_of, with_puts, mark_of}
 use Rattle.zone_model.specs.Grounds.{grounds_of, is_taken_by_deletion}
 use Rattle.zone_model.specs.PutChecks.{is_missing}
 use Rattle.zone_model.specs.Cascade.{is_due, reached, removed_names}
-use Rattle.zone_model.specs.Judging.{faults_from, has_fault}
-use Rattle.zone_model.specs.Effect.{Request, working, is_new_share_of, is_put, is_left, after_leaving, after_puts, removed, stamped, is_unmarked, is_written, write_of, writes, commits_with, effect}
+use Rattle.zone_model.specs.Judging.{faults_of, has_fault}
+use Rattle.zone_model.specs.Effect.{Request, working, is_put, is_left, after_leaving, after_puts, removed, stamped, is_unmarked, is_written, write_of, writes, commits_with, effect}
 use Rattle.zone_model.specs.Modifying.{done, outcome_of, request_at, judgement_at, modified_as_one}
 use Rattle.zone_model.specs.Lawful.{are_lawful}
 use Rattle.zone_laws.specs.Answering.{has_written, MadeWhereWritten}
@@ -46,11 +46,11 @@ found_some : (ws : List Write) (x : List ℕ) (o : Option Write) → find (λ w.
 found_some [] x o e some = absurd (both_ways false refl (ap is_some e ∙ some))
 found_some (w ∷ ws) x o e some = refl
 
-seen_there : (rows : List Record) (y : List ℕ) (o : Option Record) → record_at rows y ≡ o → is_there rows y ≡ true → (v : Record) × (record_at rows y ≡ Some v)
+pub seen_there : (rows : List Record) (y : List ℕ) (o : Option Record) → record_at rows y ≡ o → is_there rows y ≡ true → (v : Record) × (record_at rows y ≡ Some v)
 seen_there rows y None is e = absurd (both_ways false refl (sym (there-found rows y ∙ ap is_some is) ∙ e))
 seen_there rows y (Some v) is e = (v, is)
 
-private_by : (b s : Bool) → (b || not s) ≡ false → (not b ≡ true) × (s ≡ true)
+pub private_by : (b s : Bool) → (b || not s) ≡ false → (not b ≡ true) × (s ≡ true)
 private_by true s e = absurd (both_ways true e refl)
 private_by false true e = (refl, refl)
 private_by false false e = absurd (both_ways true e refl)
@@ -81,7 +81,7 @@ module _ (q : Request) (pasts : List Past) (fine : IsFine q pasts) where
       ∙ ap (λ o. option_map its_mark (option_map_or Some o (record_at q.seen x))) written)
 
   -- and so is what is put
-  put_stays : (x : List ℕ) (p : Putting) → put_at (puts_in q.ops q.guids) x ≡ Some p → record_at (working q) x ≡ None → ⊥
+  pub put_stays : (x : List ℕ) (p : Putting) → put_at (puts_in q.ops q.guids) x ≡ Some p → record_at (working q) x ≡ None → ⊥
   put_stays x p at none = put_stays_by (record_at q.seen x) x p refl at none
 
   some_write : (goes written : Bool) (a : Record) → (goes || written) ≡ true → is_some (write_by q (removed q) goes written a) ≡ true
@@ -179,11 +179,11 @@ module _ (q : Request) (pasts : List Past) (fine : IsFine q pasts) where
     working_is : working q ≡ map its_mark q.seen
     working_is = ap (λ ps. map its_mark (fold with_record q.seen (records_written q.seen ps))) no_puts_here
 
-    old_shares : (x : List ℕ) (some : List Record) → ((r : Record) → list_any (λ (t : Record). same t.name r.name) some ≡ true → is_there q.seen r.name ≡ true) → list_any (is_new_share_of q x) (map its_mark some) ≡ false
+    old_shares : (x : List ℕ) (some : List Record) → ((r : Record) → list_any (λ (t : Record). same t.name r.name) some ≡ true → is_there q.seen r.name ≡ true) → list_any (is_new_share_of q.seen x) (map its_mark some) ≡ false
     old_shares x [] within = refl
     old_shares x (r ∷ some) within =
-        ap (λ b. (is_share_of x (its_mark r) && not b) || list_any (is_new_share_of q x) (map its_mark some)) (within r (or_left (same r.name r.name) _ (same-refl r.name)))
-        ∙ ap (λ b. b || list_any (is_new_share_of q x) (map its_mark some)) (and_false (is_share_of x (its_mark r)))
+        ap (λ b. (is_share_of x (its_mark r) && not b) || list_any (is_new_share_of q.seen x) (map its_mark some)) (within r (or_left (same r.name r.name) _ (same-refl r.name)))
+        ∙ ap (λ b. b || list_any (is_new_share_of q.seen x) (map its_mark some)) (and_false (is_share_of x (its_mark r)))
         ∙ old_shares x some (λ t i. within t (or_right (same r.name t.name) _ i))
       where
         and_false : (b : Bool) → (b && false) ≡ false
@@ -198,8 +198,8 @@ module _ (q : Request) (pasts : List Past) (fine : IsFine q pasts) where
         (or_cases (same t.name r.name) _ e)
 
     unput : (x : List ℕ) → is_put q x ≡ false
-    unput x = ap (λ ps. list_any (λ (p : Putting). same x (name_of_put p)) ps || list_any (is_new_share_of q x) (working q)) no_puts_here
-        ∙ ap (list_any (is_new_share_of q x)) working_is ∙ old_shares x q.seen (among_seen q.seen)
+    unput x = ap (λ ps. list_any (λ (p : Putting). same x (name_of_put p)) ps || list_any (is_new_share_of q.seen x) (working q)) no_puts_here
+        ∙ ap (list_any (is_new_share_of q.seen x)) working_is ∙ old_shares x q.seen (among_seen q.seen)
 
     after_is_map : after_puts q ≡ map (after_leaving q) q.rows
     after_is_map = ap (λ some. map (after_leaving q) (fold with_record q.rows some)) (none_passes (λ (r : Record). is_put q r.name) (working q) (λ r. unput r.name))
@@ -249,7 +249,7 @@ refused_none q (op ∷ ops) [] all = refl
 refused_none q (op ∷ ops) (None ∷ faults) all = absurd (both_ways false refl all)
 refused_none q (op ∷ ops) (Some fault ∷ faults) all = refused_none q ops faults all
 
-all_through : (q : Request) (ops : List Op) (faults : List (Option OpFault)) → length faults ≡ length ops → has_fault faults ≡ false → map (outcome_of q) (zip ops faults) ≡ map (done q) ops
+pub all_through : (q : Request) (ops : List Op) (faults : List (Option OpFault)) → length faults ≡ length ops → has_fault faults ≡ false → map (outcome_of q) (zip ops faults) ≡ map (done q) ops
 all_through q [] faults len none = refl
 all_through q (op ∷ ops) [] len none = absurd (omega (arith, len))
 all_through q (op ∷ ops) (None ∷ faults) len none = ap (λ os. done q op ∷ os) (all_through q ops faults (omega (arith, len)) none)
@@ -281,7 +281,7 @@ module _ (caller : Caller) (moment : ℕ) (log : List Commit) (ops : List Op) (g
     put_told op None is offered e = let p = found_put (puts_in ops guids) (name_of_op op) offered in put_stays its_request its_pasts fine (name_of_op op) p.0 p.1 is
 
     quiet_by : (d : Bool) (op : Op) → is_deletion op.kind ≡ d → (d ≡ false → offers (puts_in ops guids) (name_of_op op) ≡ true)
-        → has_written its_request.seen (if d then Deleted (name_of_op op) else option_map_or (λ r. Answered (stamped its_request r)) (record_at (working its_request) (name_of_op op)) (Deleted (name_of_op op))) ≡ false
+        → has_written its_request.seen (option_map_or (λ r. Answered (stamped its_request r)) (if d then None else (record_at (working its_request) (name_of_op op))) (Deleted (name_of_op op))) ≡ false
         → IsQuiet its_request its_pasts fine op
     quiet_by true op is offered e = record { deletes = is; unseen = e }
     quiet_by false op is offered e = absurd (put_told op (record_at (working its_request) (name_of_op op)) refl (offered refl) e)
@@ -291,10 +291,10 @@ module _ (caller : Caller) (moment : ℕ) (log : List Commit) (ops : List Op) (g
         → ((left : List (List ℕ)) → ((x : List ℕ) → offers (puts_in some left) x ≡ true → offers (puts_in ops guids) x ≡ true) → AllByRecursion (IsQuiet its_request its_pasts fine) some)
         → has_written its_request.seen (done its_request op) ≡ false → AllByRecursion (IsQuiet its_request its_pasts fine) (op ∷ some)
     quiet_step true op some gs is offered rest e =
-        (quiet_by true op is (λ f. absurd (both_ways true f refl)) (ap (λ b. has_written its_request.seen (if b then Deleted (name_of_op op) else option_map_or (λ r. Answered (stamped its_request r)) (record_at (working its_request) (name_of_op op)) (Deleted (name_of_op op)))) (sym is) ∙ e), rest gs offered)
+        (quiet_by true op is (λ f. absurd (both_ways true f refl)) (ap (λ b. has_written its_request.seen (option_map_or (λ r. Answered (stamped its_request r)) (if b then None else (record_at (working its_request) (name_of_op op))) (Deleted (name_of_op op)))) (sym is) ∙ e), rest gs offered)
     quiet_step false op some gs is offered rest e = (
       quiet_by false op is (λ f. offered (name_of_op op) (or_left (same (name_of_op op) (name_of_op op)) _ (same-refl (name_of_op op))))
-          (ap (λ b. has_written its_request.seen (if b then Deleted (name_of_op op) else option_map_or (λ r. Answered (stamped its_request r)) (record_at (working its_request) (name_of_op op)) (Deleted (name_of_op op)))) (sym is) ∙ e),
+          (ap (λ b. has_written its_request.seen (option_map_or (λ r. Answered (stamped its_request r)) (if b then None else (record_at (working its_request) (name_of_op op))) (Deleted (name_of_op op)))) (sym is) ∙ e),
       rest (guids_left op gs) (λ x i. offered x (or_right (same x (name_of_op op)) _ i)),
     )
 
@@ -309,7 +309,7 @@ module _ (caller : Caller) (moment : ℕ) (log : List Commit) (ops : List Op) (g
 
     wrote_by : (d : Bool) (op : Op) (o : Option Record) → record_at (working its_request) (name_of_op op) ≡ o → (d ≡ false → offers (puts_in ops guids) (name_of_op op) ≡ true)
         → (d ≡ true → is_in (names_deleted ops) (name_of_op op) ≡ true)
-        → has_written its_request.seen (if d then Deleted (name_of_op op) else option_map_or (λ r. Answered (stamped its_request r)) o (Deleted (name_of_op op))) ≡ true → is_empty its_writes ≡ false
+        → has_written its_request.seen (option_map_or (λ r. Answered (stamped its_request r)) (if d then None else o) (Deleted (name_of_op op))) ≡ true → is_empty its_writes ≡ false
     wrote_by true op o is offered deleted e = deleted_written its_request its_pasts fine (name_of_op op) (deleted refl) e
     wrote_by false op (Some r) is offered deleted e = let p = found_put (puts_in ops guids) (name_of_op op) (offered refl) in put_written its_request its_pasts fine (name_of_op op) p.0 r p.1 is
     wrote_by false op None is offered deleted e = let p = found_put (puts_in ops guids) (name_of_op op) (offered refl) in absurd (put_stays its_request its_pasts fine (name_of_op op) p.0 p.1 is)
@@ -326,13 +326,13 @@ module _ (caller : Caller) (moment : ℕ) (log : List Commit) (ops : List Op) (g
     wrote_step true op some gs is offered deleted rest e = ⊎_elim
         (λ (h : has_written its_request.seen (done its_request op) ≡ true).
         wrote_by true op (record_at (working its_request) (name_of_op op)) refl (λ f. absurd (both_ways true f refl)) (λ _. deleted (name_of_op op) (or_left (same (name_of_op op) (name_of_op op)) _ (same-refl (name_of_op op))))
-        (ap (λ b. has_written its_request.seen (if b then Deleted (name_of_op op) else option_map_or (λ r. Answered (stamped its_request r)) (record_at (working its_request) (name_of_op op)) (Deleted (name_of_op op)))) (sym is) ∙ h))
+        (ap (λ b. has_written its_request.seen (option_map_or (λ r. Answered (stamped its_request r)) (if b then None else (record_at (working its_request) (name_of_op op))) (Deleted (name_of_op op)))) (sym is) ∙ h))
         (λ (h : list_any (has_written its_request.seen) (map (done its_request) some) ≡ true). rest gs offered (λ x i. deleted x (or_right (same x (name_of_op op)) _ i)) h)
         (or_cases (has_written its_request.seen (done its_request op)) _ e)
     wrote_step false op some gs is offered deleted rest e = ⊎_elim
         (λ (h : has_written its_request.seen (done its_request op) ≡ true).
         wrote_by false op (record_at (working its_request) (name_of_op op)) refl (λ _. offered (name_of_op op) (or_left (same (name_of_op op) (name_of_op op)) _ (same-refl (name_of_op op)))) (λ f. absurd (both_ways false refl f))
-        (ap (λ b. has_written its_request.seen (if b then Deleted (name_of_op op) else option_map_or (λ r. Answered (stamped its_request r)) (record_at (working its_request) (name_of_op op)) (Deleted (name_of_op op)))) (sym is) ∙ h))
+        (ap (λ b. has_written its_request.seen (option_map_or (λ r. Answered (stamped its_request r)) (if b then None else (record_at (working its_request) (name_of_op op))) (Deleted (name_of_op op)))) (sym is) ∙ h))
         (λ (h : list_any (has_written its_request.seen) (map (done its_request) some) ≡ true). rest (guids_left op gs) (λ x i. offered x (or_right (same x (name_of_op op)) _ i)) deleted h)
         (or_cases (has_written its_request.seen (done its_request op)) _ e)
 
@@ -348,7 +348,7 @@ module _ (caller : Caller) (moment : ℕ) (log : List Commit) (ops : List Op) (g
   made_by : (b : Bool) → has_fault (judgement_at caller moment log ops) ≡ b
       → not (is_empty (if b then [] else effect its_request)) ≡ list_any (has_written its_request.seen) (modified_as_one caller moment log ops guids).outcomes
   made_by true judged = sym (refused_none its_request ops (judgement_at caller moment log ops)
-      (all-refused (faults_from (grounds_of caller its_pasts (view_of log caller.user caller.scope caller.key).rows ops) [] ops) judged))
+      (all-refused (faults_of (grounds_of caller its_pasts (view_of log caller.user caller.scope caller.key).rows ops) ops) judged))
   made_by false judged =
       ap not (one_commit its_request its_writes)
       ∙ either judged (list_any (has_written its_request.seen) (map (done its_request) ops)) refl

@@ -15,7 +15,7 @@ use Rattle.zone_model.specs.Names.{same, same_key, is_default}
 use Rattle.name_rules.specs.Options.{or_else}
 use Rattle.zone_model.specs.Records.{record_at}
 use Rattle.zone_model.specs.Zones.{Zone, zone_at, after_act, act_puts, puts_at}
-use Rattle.zone_model.specs.OnePuts.{commit_of_put, only_put, IsOnePut, put_by, last_put, count_puts}
+use Rattle.plain_creates.specs.OnePuts.{commit_of_put, only_put, IsOnePut, put_by, last_put, count_puts}
 use Rattle.zone_laws.specs.Laws.{OnePutMore, PutsAreFound}
 use Rattle.zone_laws.proofs.NameLaws.{key-refl}
 use Rattle.zone_laws.proofs.RecordLaws.{found-with}

@@ -133,7 +133,7 @@ gone_step : (b : Bool) (u : List ℕ) (p : Participant) (some : List Participant
 gone_step true u p some is ih = ih
 gone_step false u p some is ih = cond-false (same u p.user) (Some p) (participant_at some u) is ∙ ih
 
-gone : (u : List ℕ) (ps : List Participant) → participant_at (filter (λ (p : Participant). not (same u p.user)) ps) u ≡ None
+pub gone : (u : List ℕ) (ps : List Participant) → participant_at (filter (λ (p : Participant). not (same u p.user)) ps) u ≡ None
 gone u [] = refl
 gone u (p ∷ ps) = gone_step (same u p.user) u p (filter (λ (q : Participant). not (same u q.user)) ps) refl (gone u ps)
 

@@ -23,7 +23,7 @@ use Rattle.zone_model.specs.declared.operations.OpKind.TheVariants.{Create, Upda
 use Rattle.zone_model.specs.declared.operations.Op.{Op}
 use Rattle.zone_model.specs.declared.operations.Past.{Past}
 use Rattle.zone_model.specs.declared.outcomes.OpFault.{OpFault}
-use Rattle.zone_model.specs.declared.outcomes.OpFault.TheVariants.{Exists, Conflict, BadRequest, Validating}
+use Rattle.zone_model.specs.declared.outcomes.OpFault.TheVariants.{Exists, NotFound, Conflict, BadRequest, AccessDenied, Validating}
 use Rattle.zone_model.specs.declared.outcomes.Outcome.TheVariants.{Put as Placed, Deleted, Refused}
 use Rattle.zone_model.specs.declared.commits.Write.{Write}
 use Rattle.zone_model.specs.declared.commits.Write.TheVariants.{Put}
@@ -41,14 +41,14 @@ use Rattle.zone_model.specs.Past.{name_history, is_taken, past_of}
 use Rattle.zone_model.specs.Sharing.{share_after}
 use Rattle.share_records.specs.ShareLists.{is_refused_list, first_share}
 use Rattle.zone_model.specs.Putting.{new_record, written_over, no_stamp}
-use Rattle.zone_model.specs.Working.{is_share_of, with_puts, with_marks, mark_of, loses_mark}
+use Rattle.zone_model.specs.Working.{is_new_share_of, is_share_of, with_puts, with_marks, mark_of, loses_mark}
 use Rattle.zone_model.specs.Grounds.{Grounds, grounds_of, is_stale, in_working, first_fault, Check}
-use Rattle.zone_model.specs.PutChecks.{is_hidden, has_shared_root, begins, root, root_seen, parent, is_name_taken, is_in_conflict, has_bad_form, is_dangling, lacks_target, is_plain_in_working, put_checks, fault_of_put, put_checks, is_in_view}
+use Rattle.zone_model.specs.PutChecks.{is_hidden, has_shared_root, begins, root, root_seen, parent, is_name_taken, is_missing, is_in_conflict, has_bad_form, is_denied, is_dangling, lacks_target, is_plain_in_working, fault_of_put, is_in_view}
 use Rattle.zone_model.specs.Judging.{judgement, has_fault, together}
-use Rattle.zone_model.specs.Effect.{Request, working, is_put, is_new_share_of, after_leaving, after_puts, removed, stamp, stamped, is_unmarked, write_of, writes, effect, commits_with}
+use Rattle.zone_model.specs.Effect.{Request, working, is_put, after_leaving, after_puts, removed, stamp, stamped, is_unmarked, write_as, write_of, writes, effect, commits_with}
 use Rattle.zone_model.specs.Modifying.{request_at, judgement_at, done, outcome_of, modified_as_one, modified_apart, shown_with}
-use Rattle.zone_model.specs.PlainCreates.{IsOwner, gives_no_parent, gives_no_share, only_names, has_plain_references, is_plain_draft, drafted_record, created_record, is_too_large, refusal_of_create}
-use Rattle.zone_model.specs.OnePuts.{commit_of_put}
+use Rattle.plain_creates.specs.PlainCreates.{IsOwner, gives_no_parent, gives_no_share, only_names, has_plain_references, is_plain_draft, drafted_record, created_record, is_too_large, refusal_of_create}
+use Rattle.plain_creates.specs.OnePuts.{commit_of_put}
 use Rattle.zone_laws.specs.Laws.{OneIsEitherWay, OwnersSeeAll, PlainCreatesAreDone, PlainCreatesAreInForm}
 use Rattle.name_rules.proofs.NameLemmas.{same-refl}
 use Rattle.zone_laws.proofs.OrderLaws.{ascending-zone}
@@ -150,8 +150,17 @@ module _ (key : ZoneKey) (pasts : List Past) (rows : List Record) (d : Draft) (p
   abbrev its_put : Putting
   its_put = record { kind = Create; draft = d; guid = [] }
 
+  abbrev later_checks : List Check
+  later_checks =
+      (is_missing its_grounds its_put, NotFound)
+      ∷ (is_in_conflict its_grounds its_put, Conflict)
+      ∷ (has_bad_form its_grounds its_put, BadRequest)
+      ∷ (is_denied its_grounds its_put, AccessDenied)
+      ∷ (is_dangling its_grounds its_put, Validating)
+      ∷ []
+
   fault_taken : is_there rows (name_of_draft d) ≡ true → fault_of_put its_grounds its_put [] ≡ refusal_of_create rows d
-  fault_taken is = first_passes (is_name_taken its_grounds its_put []) Exists (drop 1 (put_checks its_grounds its_put [])) (or_left (is_in_view its_grounds its_put)
+  fault_taken is = first_passes (is_name_taken its_grounds its_put []) Exists later_checks (or_left (is_in_view its_grounds its_put)
       (is_hidden its_grounds its_put || (is_in [] (name_of_draft d) || has_shared_root its_grounds its_put)) (ap (λ b. not (not b)) is))
       ∙ sym (ap (λ b. if b then Some Exists else (if is_none d.rtype || is_too_large d then Some BadRequest else None)) is)
 
@@ -235,8 +244,8 @@ module _ (key : ZoneKey) (moment : ℕ) (rows : List Record) (puts : List ℕ �
   unlost x = any_none (λ (s : Record). is_share_of x s && false) rows (λ s. and-false (is_share_of x s))
 
   mark_stays : (r : Record) → mark_of Private rows (create d ∷ []) all_rows r ≡ r.share
-  mark_stays r i = or_else
-      (option_map_or (λ (s : Record). Some s.name) (find_none (λ (s : Record). is_share_of r.name s && not (is_there rows s.name)) all_rows (unshared r.name) i) None)
+  mark_stays r i = option_map_or (λ (s : Record). Some s.name)
+      (find_none (λ (s : Record). is_share_of r.name s && not (is_there rows s.name)) all_rows (unshared r.name) i)
       (if unlost r.name i then None else r.share)
 
   working_is : working its_request ≡ all_rows
@@ -244,7 +253,7 @@ module _ (key : ZoneKey) (moment : ℕ) (rows : List Record) (puts : List ℕ �
       ∙ map_same (λ (r : Record). record r { share = mark_of Private rows (create d ∷ []) all_rows r }) (λ r i. record r { share = mark_stays r i }) all_rows
 
   put_is : (x : List ℕ) → is_put its_request x ≡ same x (name_of_draft d)
-  put_is x = ap (λ rs. (same x (name_of_draft d) || false) || list_any (is_new_share_of its_request x) rs) working_is
+  put_is x = ap (λ rs. (same x (name_of_draft d) || false) || list_any (is_new_share_of its_request.seen x) rs) working_is
       ∙ ap (λ b. (same x (name_of_draft d) || false) || b) (unshared x) ∙ or-false (same x (name_of_draft d) || false) ∙ or-false (same x (name_of_draft d))
 
   put_alone : filter (λ (r : Record). is_put its_request r.name) (working its_request) ≡ drafted_record d ∷ []
@@ -262,10 +271,10 @@ module _ (key : ZoneKey) (moment : ℕ) (rows : List Record) (puts : List ℕ �
   unmarked_none r = any_none (λ (s : Record). is_share_of r.name s && false) (after_puts its_request) (λ s. and-false (is_share_of r.name s))
 
   abbrev put_of : Bool → Record → Option Write
-  put_of b r = if b then Some (Put (stamped its_request r)) else None
+  put_of b r = write_as false b (stamped its_request r)
 
   write_is : (r : Record) → write_of its_request [] r ≡ put_of (same r.name (name_of_draft d)) r
-  write_is r = (λ i. if put_is r.name i || unmarked_none r i then Some (Put (record (stamped its_request r) { share = if unmarked_none r i then None else r.share })) else None)
+  write_is r = (λ i. write_as false (put_is r.name i || unmarked_none r i) (record (stamped its_request r) { share = if unmarked_none r i then None else r.share }))
       ∙ ap (λ b. put_of b r) (or-false (same r.name (name_of_draft d)))
 
   stamped_is : stamped its_request (drafted_record d) ≡ its_record

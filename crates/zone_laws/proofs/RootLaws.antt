@@ -5,7 +5,9 @@ use Rattle.std.specs.Option.{option_map_or}
 use Rattle.std.specs.List.{list_any}
 use Rattle.std.proofs.lemmas.Bool.{both_ways, and_parts, and_from, or_left, or_right, false_from_ne_true}
 use Rattle.std.proofs.lemmas.Option.{same_Some}
+use Rattle.ck_base.specs.declared.scope.Scope.{Scope}
 use Rattle.record_model.specs.declared.records.Record.{Record}
+use Rattle.zone_model.specs.declared.operations.Op.{Op}
 use Rattle.zone_model.specs.declared.operations.Past.{Past}
 use Rattle.zone_model.specs.Names.{same, is_in, is_private}
 use Rattle.name_rules.specs.Options.{is_some_and, or_else}
@@ -14,9 +16,9 @@ use Rattle.zone_model.specs.References.{goes_with}
 use Rattle.zone_model.specs.Ancestry.{is_ancestor}
 use Rattle.zone_model.specs.Requests.{Putting, name_of_put, puts_in, names_deleted}
 use Rattle.zone_model.specs.Putting.{records_written}
-use Rattle.zone_model.specs.Working.{is_share_of, mark_of, with_puts, new_share_of, loses_mark}
+use Rattle.zone_model.specs.Working.{is_new_share_of, is_share_of, mark_of, with_puts, loses_mark}
 use Rattle.zone_model.specs.Grounds.{is_taken_by_deletion}
-use Rattle.zone_model.specs.Effect.{Request, working, body_without, is_put, is_new_share_of, is_left, after_leaving, after_puts, removed, is_unmarked}
+use Rattle.zone_model.specs.Effect.{Request, working, body_without, is_put, is_left, after_leaving, after_puts, removed, is_unmarked}
 use Rattle.name_rules.proofs.NameLemmas.{same-true, same-refl, kept}
 use Rattle.zone_laws.proofs.RecordLaws.{none-some, found-name, found-map}
 use Rattle.zone_laws.proofs.EffectLaws.{ascending-fold}
@@ -37,6 +39,19 @@ leaving-share q r = leaving_share q (is_left q r) r
 unthere : (o : Option Record) → is_some o ≡ false → o ≡ None
 unthere None e = refl
 unthere (Some r) e = absurd (both_ways true e refl)
+
+-- the name of the new share of a root
+abbrev pub new_share_of : List Record → List Record → List ℕ → Option (List ℕ)
+new_share_of seen rows root = option_map_or (λ (s : Record). Some s.name) (find (is_new_share_of seen root) rows) None
+
+-- a mark is the new share's name, or else another
+pub mark_is : (scope : Scope) (seen : List Record) (ops : List Op) (rows : List Record) (r : Record)
+    → mark_of scope seen ops rows r ≡ or_else (new_share_of seen rows r.name) (if loses_mark scope seen ops r.name then None else r.share)
+mark_is scope seen ops rows r = by_new (find (is_new_share_of seen r.name) rows) (if loses_mark scope seen ops r.name then None else r.share)
+  where
+    by_new : (o : Option Record) (other : Option (List ℕ)) → option_map_or (λ (s : Record). Some s.name) o other ≡ or_else (option_map_or (λ (s : Record). Some s.name) o None) other
+    by_new None other = refl
+    by_new (Some s) other = refl
 
 module _ (q : Request) (pasts : List Past) (fine : IsFine q pasts) where
   abbrev pub put_rows : List Record
@@ -157,6 +172,7 @@ module _ (q : Request) (pasts : List Past) (fine : IsFine q pasts) where
         let name : r.0.name ≡ a = sym (same-true a r.0.name (found-name put_rows a r.0 r.1)) in
         let one : v ≡ t = same_Some v t (sym (fine.part.part a v seen) ∙ found) in
         ap (λ (u : Record). u.share) (sym r.2)
+        ∙ mark_is q.caller.scope q.seen q.ops put_rows r.0
         ∙ ap (λ y. or_else (new_share_of q.seen put_rows y) (if loses_mark q.caller.scope q.seen q.ops y then None else r.0.share)) name
         ∙ ap (λ o. or_else o (if loses_mark q.caller.scope q.seen q.ops a then None else r.0.share)) (no_new_by (new_share_of q.seen put_rows a) z refl there)
         ∙ ap (λ b. if b then None else r.0.share) not_lost
@@ -187,13 +203,14 @@ module _ (q : Request) (pasts : List Past) (fine : IsFine q pasts) where
         let t = plain-found (ground q pasts).working a s.plain in
         let wa = judged-working q pasts fine a t.0 t.1 in
         let away : not (is_there q.seen w.name) ≡ true = ap not (ap (is_there q.seen) (sym (same-true x w.name (found-name (working q) x w added.at))) ∙ there-found q.seen x ∙ ap is_some added.new.unseen) in
-        let put : is_put q a ≡ true = or_right (list_any (λ (p : Putting). same a (name_of_put p)) (puts_in q.ops q.guids)) (list_any (is_new_share_of q a) (working q))
-        (any-from (is_new_share_of q a) (working q) x w added.at (and_from (is_share_of a w) _ (share_true a w wroot) away)) in
+        let put : is_put q a ≡ true = or_right (list_any (λ (p : Putting). same a (name_of_put p)) (puts_in q.ops q.guids)) (list_any (is_new_share_of q.seen a) (working q))
+        (any-from (is_new_share_of q.seen a) (working q) x w added.at (and_from (is_share_of a w) _ (share_true a w wroot) away)) in
         let r = unmarked a wa.0 wa.1 in
         let name : r.0.name ≡ a = sym (same-true a r.0.name (found-name put_rows a r.0 r.1)) in
         let m = mark_there x a w added.at added.new.unseen wroot in
         let mine : x ≡ m.0 = (same_new m.0 m.1).0 in
         let marks : wa.0.share ≡ Some x = ap (λ (u : Record). u.share) (sym r.2)
+        ∙ mark_is q.caller.scope q.seen q.ops put_rows r.0
         ∙ ap (λ y. or_else (new_share_of q.seen put_rows y) (if loses_mark q.caller.scope q.seen q.ops y then None else r.0.share)) name
         ∙ ap (λ o. or_else o (if loses_mark q.caller.scope q.seen q.ops a then None else r.0.share)) m.1 ∙ ap Some (sym mine) in
         let row : after_leaving q wa.0 ≡ b.0 = same_Some (after_leaving q wa.0) b.0 (sym (after_is q pasts fine true (Some wa.0) (record_at q.rows a) a put wa.1 refl) ∙ b.1) in

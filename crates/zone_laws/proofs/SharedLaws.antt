@@ -1,5 +1,5 @@
 -- In the shared scope what a request changes is writable.
-use Rattle.std.proofs.Common.{◌≡◌, ◌∙◌, ℕ, List, [], ◌∷◌, Bool, true, false, not, ◌&&◌, ◌||◌, refl, sym, ap, Option, Some, None, map, inl, inr}
+use Rattle.std.proofs.Common.{◌≡◌, ◌∙◌, ℕ, List, [], ◌∷◌, Bool, true, false, not, ◌&&◌, ◌||◌, refl, sym, ap, subst, Option, Some, None, map, length, arith, inl, inr}
 use Rattle.std.specs.Prelude.{◌⊎◌, zip, is_some, is_none, if◌then◌else◌, unwrap_or}
 use Rattle.std.specs.List.{AllByRecursion}
 use Rattle.std.proofs.lemmas.Bool.{both_ways, or_parts}
@@ -12,13 +12,20 @@ use Rattle.name_rules.specs.Options.{is_some_and}
 use Rattle.zone_model.specs.Records.{record_at, is_share}
 use Rattle.record_model.specs.RecordForms.{is_share_type}
 use Rattle.zone_model.specs.Ancestry.{is_ancestor}
-use Rattle.zone_model.specs.Requests.{Putting, is_deletion, name_of_op, new_parent}
+use Rattle.zone_model.specs.Requests.{Caller, Putting, is_deletion, name_of_op, new_parent}
 use Rattle.zone_model.specs.Grounds.{Grounds, grounds_of, is_seen, in_working, is_writable, first_fault}
 use Rattle.zone_model.specs.PutChecks.{is_new, begins, is_of_share, is_old_share, parent, is_denied, is_denied_parent, is_name_taken, is_missing, is_in_conflict, has_bad_form, has_bad_parent, has_bad_root, has_bad_reference, is_dangling, is_plain_in_working, fault_of_put}
 use Rattle.zone_model.specs.DeletionChecks.{fault_of_deletion, is_denied as is_denied_deletion, is_missing as lacks, is_in_conflict as is_in_conflict_with, is_held_back}
-use Rattle.zone_model.specs.Judging.{faults_from, has_fault, together}
-use Rattle.zone_laws.specs.Laws.{IsPermittedPut, IsPermittedDeletion, IsPermitted, SharedChangesArePermitted}
+use Rattle.zone_model.specs.Judging.{faults_of, has_fault, together}
+use Rattle.zone_model.specs.declared.commits.Commit.{Commit}
+use Rattle.zone_model.specs.Views.{is_empty, view_of}
+use Rattle.zone_model.specs.Past.{name_history}
+use Rattle.zone_model.specs.Effect.{effect}
+use Rattle.zone_model.specs.Modifying.{request_at, judgement_at, effect_at}
+use Rattle.zone_laws.proofs.JudgedLaws.{faults_from, faults_told}
+use Rattle.zone_laws.specs.Laws.{IsPermittedPut, IsPermittedDeletion, IsPermittedOp, IsPermitted, SharedChangesArePermitted}
 use Rattle.zone_laws.proofs.JudgeLaws.{there-found, six_pass}
+use Rattle.zone_laws.proofs.ConflictLaws.{all_judged}
 
 -- ---- tests
 
@@ -131,13 +138,13 @@ module _ (g : Grounds) (shared : is_shared g.caller.scope ≡ true) where
     where
       step : AllByRecursion (IsPermitted g) (zip ops (faults_from g earlier ops)) → AllByRecursion (IsPermitted g) (zip ops (faults_from g (name_of_op op ∷ earlier) ops)) → (b : Bool) → is_deletion op.kind ≡ b
           → AllByRecursion (IsPermitted g) (zip (op ∷ ops) (if b then fault_of_deletion g op ∷ faults_from g earlier ops else fault_of_put g (record { kind = op.kind; draft = op.draft; guid = [] }) earlier ∷ faults_from g (name_of_op op ∷ earlier) ops))
-      step behind past true kind = (record { deletion = λ none is. permitted_deletion g shared op none; put = λ none is. absurd (both_ways (is_deletion op.kind) is kind) }, behind)
-      step behind past false kind = (record { deletion = λ none is. absurd (both_ways (is_deletion op.kind) kind is); put = λ none is. permitted_put g shared op earlier none }, past)
+      step behind past true kind = (λ none. record { deletion = λ is. permitted_deletion g shared op none; put = λ is. absurd (both_ways (is_deletion op.kind) is kind) }, behind)
+      step behind past false kind = (λ none. record { deletion = λ is. absurd (both_ways (is_deletion op.kind) kind is); put = λ is. permitted_put g shared op earlier none }, past)
 
   all_refused_permit : (ops : List Op) (faults : List (Option OpFault)) → AllByRecursion (IsPermitted g) (zip ops (map (λ o. Some (unwrap_or o Atomic)) faults))
   all_refused_permit [] faults = tt
   all_refused_permit (op ∷ ops) [] = tt
-  all_refused_permit (op ∷ ops) (o ∷ faults) = (record { deletion = λ none is. absurd (some_none none); put = λ none is. absurd (some_none none) }, all_refused_permit ops faults)
+  all_refused_permit (op ∷ ops) (o ∷ faults) = (λ none. absurd (some_none none), all_refused_permit ops faults)
 
   together_permit : (ops : List Op) (faults : List (Option OpFault)) → AllByRecursion (IsPermitted g) (zip ops faults) → AllByRecursion (IsPermitted g) (zip ops (together faults))
   together_permit ops faults all = by_fault (has_fault faults)
@@ -149,4 +156,26 @@ module _ (g : Grounds) (shared : is_shared g.caller.scope ≡ true) where
 pub changes_permitted : SharedChangesArePermitted
 changes_permitted caller view pasts ops shared =
     let g = grounds_of caller pasts view.rows ops in
-    together_permit g shared ops _ (faults_permit g shared [] ops)
+    together_permit g shared ops (faults_of g ops) (subst (λ fs. AllByRecursion (IsPermitted g) (zip ops fs)) (sym (faults_told g ops)) (faults_permit g shared [] ops))
+
+-- ---- where something is committed
+
+none_refused : (g : Grounds) (ops : List Op) (faults : List (Option OpFault)) → length faults ≡ length ops → has_fault faults ≡ false
+    → AllByRecursion (IsPermitted g) (zip ops faults) → AllByRecursion (IsPermittedOp g) ops
+none_refused g [] faults len none all = tt
+none_refused g (op ∷ ops) [] len none all = absurd (omega (arith, len))
+none_refused g (op ∷ ops) (None ∷ faults) len none all = (all.0 refl, none_refused g ops faults (omega (arith, len)) none all.1)
+none_refused g (op ∷ ops) (Some fault ∷ faults) len none all = absurd (both_ways true none refl)
+
+pub asked_permitted : (caller : Caller) (moment : ℕ) (log : List Commit) (ops : List Op) (guids : List (List ℕ))
+    → is_shared caller.scope ≡ true → is_empty (effect_at caller moment log ops guids) ≡ false
+    → AllByRecursion (IsPermittedOp (grounds_of caller (name_history log caller.key ops) (view_of log caller.user caller.scope caller.key).rows ops)) ops
+asked_permitted caller moment log ops guids shared made =
+    let v = view_of log caller.user caller.scope caller.key in
+    let pasts = name_history log caller.key ops in
+    none_refused (grounds_of caller pasts v.rows ops) ops (judgement_at caller moment log ops) (all_judged v pasts ops caller)
+    (unfaulted (has_fault (judgement_at caller moment log ops)) refl made) (changes_permitted caller v pasts ops shared)
+  where
+    unfaulted : (b : Bool) → has_fault (judgement_at caller moment log ops) ≡ b → is_empty (if b then [] else effect (request_at caller moment log ops guids)) ≡ false → has_fault (judgement_at caller moment log ops) ≡ false
+    unfaulted true is e = absurd (both_ways true e refl)
+    unfaulted false is e = is

@@ -21,16 +21,17 @@ use Rattle.zone_model.specs.Records.{record_at, is_there, names_in, is_share, Is
 use Rattle.zone_model.specs.Zones.{zone_at, written_name}
 use Rattle.zone_model.specs.Requests.{Caller, Putting, is_deletion, has_share_type, name_of_op, name_of_put, first_guid, makes_new, root_given, puts_in, guids_left, roots_in, names_deleted}
 use Rattle.zone_model.specs.Putting.{new_record}
-use Rattle.zone_model.specs.Working.{is_share_of, with_puts, mark_of}
+use Rattle.zone_model.specs.Working.{is_new_share_of, is_share_of, with_puts, mark_of}
 use Rattle.zone_model.specs.Grounds.{names_taken, grounds_of}
 use Rattle.zone_model.specs.Past.{name_history}
 use Rattle.zone_model.specs.PutChecks.{is_of_share, is_old_share, is_denied, begins}
 use Rattle.zone_model.specs.Cascade.{IsLeast}
-use Rattle.zone_model.specs.Judging.{faults_from, has_fault}
-use Rattle.zone_model.specs.Effect.{Request, body_without, working, is_new_share_of, is_put, is_left, after_leaving, after_puts, removed, stamp, stamped, is_unmarked, is_written, final, write_of, writes, commits_with, effect}
+use Rattle.zone_model.specs.Judging.{faults_of, has_fault}
+use Rattle.zone_model.specs.Effect.{Request, body_without, working, is_put, is_left, after_leaving, after_puts, removed, stamp, stamped, is_unmarked, is_written, final, write_as, write_of, writes, commits_with, effect}
 use Rattle.zone_model.specs.Views.{view_of}
 use Rattle.zone_model.specs.Modifying.{done, outcome_of, request_at, judgement_at, effect_at, modified_as_one}
 use Rattle.zone_model.specs.Lawful.{are_lawful}
+use Rattle.zone_laws.proofs.SharedLaws.{asked_permitted}
 use Rattle.zone_laws.specs.Answering.{writes_made, IsStamped, StampsAreSet, IsWritten, IsShownWritten, OutcomesAreWritten, IsAllowed, SharedWritesAreAllowed, AnyLeastSetWillDo}
 use Rattle.zone_laws.proofs.RecordLaws.{none-some, found-name, found-below, later_step}
 use Rattle.zone_laws.proofs.EffectLaws.{write_by}
@@ -203,7 +204,7 @@ module _ (q : Request) (pasts : List Past) (fine : IsFine q pasts) where
   pub shown_written : (x : List ℕ) (p : Putting) (r : Record) → put_at (puts_in q.ops q.guids) x ≡ Some p → record_at (working q) x ≡ Some r → IsWritten (writes q (removed q)) (stamped q r)
   shown_written x p r at is =
       let name : x ≡ r.name = same-true x r.name (found-name (working q) x r is) in
-      let put : is_put q x ≡ true = or_left (list_any (λ (t : Putting). same x (name_of_put t)) (puts_in q.ops q.guids)) (list_any (is_new_share_of q x) (working q)) (any_put (puts_in q.ops q.guids) x p at) in
+      let put : is_put q x ≡ true = or_left (list_any (λ (t : Putting). same x (name_of_put t)) (puts_in q.ops q.guids)) (list_any (is_new_share_of q.seen x) (working q)) (any_put (puts_in q.ops q.guids) x p at) in
       let there : record_at (after_puts q) x ≡ Some r = after_is q pasts fine true (Some r) (record_at q.rows x) x put is refl
       ∙ ap (λ b. Some (if b then record r { body = body_without q.caller.user r.body } else r)) (unleft x p r at is) in
       let found = found_write (write_of q (removed q)) (write_named q (removed q)) (after_puts q) x r (after_in_order q pasts fine) there in
@@ -213,7 +214,7 @@ module _ (q : Request) (pasts : List Past) (fine : IsFine q pasts) where
 
   -- ---- what the shared scope allows
 
-  no_new_share : is_shared q.caller.scope ≡ true → (s : Record) (x : List ℕ) → record_at (working q) s.name ≡ Some s → is_new_share_of q x s ≡ true → ⊥
+  no_new_share : is_shared q.caller.scope ≡ true → (s : Record) (x : List ℕ) → record_at (working q) s.name ≡ Some s → is_new_share_of q.seen x s ≡ true → ⊥
   no_new_share shared s x at e =
       let parts = and_parts (is_share_of x s) _ e in
       let unseen : record_at q.seen s.name ≡ None = unseen_of q.seen s.name (record_at q.seen s.name) refl parts.1 in
@@ -225,9 +226,9 @@ module _ (q : Request) (pasts : List Past) (fine : IsFine q pasts) where
       both_ways (is_denied g (blank new.put)) (checked q pasts fine s.name new.put new.at).permitted
       (and_from (is_shared q.caller.scope) _ shared (or_left (is_of_share g (blank new.put)) _ (or_left (begins g (blank new.put)) (is_old_share g (blank new.put)) begun)))
 
-  unmarked_by_new : is_shared q.caller.scope ≡ true → (x : List ℕ) → list_any (is_new_share_of q x) (working q) ≡ true → ⊥
+  unmarked_by_new : is_shared q.caller.scope ≡ true → (x : List ℕ) → list_any (is_new_share_of q.seen x) (working q) ≡ true → ⊥
   unmarked_by_new shared x e =
-      let s = found-any (is_new_share_of q x) (working q) (ascending-working q fine.seen_in_order) e in
+      let s = found-any (is_new_share_of q.seen x) (working q) (ascending-working q fine.seen_in_order) e in
       no_new_share shared s.0 x s.1 s.2
 
   allowed_by : (goes : Bool) (a : Record) (w : Write) → is_shared q.caller.scope ≡ true → is_in (removed q) a.name ≡ goes → (written : Bool) → is_written q (removed q) a ≡ written → write_by q (removed q) goes written a ≡ Some w → IsAllowed q w
@@ -237,8 +238,8 @@ module _ (q : Request) (pasts : List Past) (fine : IsFine q pasts) where
   allowed_by false a w shared gone true is e = subst (IsAllowed q) (same_Some (Put (final q (removed q) a)) w e) (⊎_elim
       (λ (h : is_put q a.name ≡ true). ⊎_elim
       (λ (i : list_any (λ (p : Putting). same a.name (name_of_put p)) (puts_in q.ops q.guids) ≡ true). inl i)
-      (λ (i : list_any (is_new_share_of q a.name) (working q) ≡ true). absurd (unmarked_by_new shared a.name i))
-      (or_cases (list_any (λ (p : Putting). same a.name (name_of_put p)) (puts_in q.ops q.guids)) (list_any (is_new_share_of q a.name) (working q)) h))
+      (λ (i : list_any (is_new_share_of q.seen a.name) (working q) ≡ true). absurd (unmarked_by_new shared a.name i))
+      (or_cases (list_any (λ (p : Putting). same a.name (name_of_put p)) (puts_in q.ops q.guids)) (list_any (is_new_share_of q.seen a.name) (working q)) h))
       (λ (h : (is_left q a || is_unmarked q (removed q) a) ≡ true). ⊎_elim
       (λ (i : is_left q a ≡ true). inr (inl i))
       (λ (i : is_unmarked q (removed q) a ≡ true). inr (inr (and_parts (not (is_in (removed q) a.name)) _ i).1))
@@ -257,7 +258,7 @@ found_put (p ∷ ps) x e = found_put_step (same x (name_of_put p)) p ps x (found
 -- ---- at a log
 
 -- the writes of a commit, where it is made
-made_writes : (q : Request) (ws : List Write) → writes_made (commits_with q ws) ≡ ws
+pub made_writes : (q : Request) (ws : List Write) → writes_made (commits_with q ws) ≡ ws
 made_writes q [] = refl
 made_writes q (w ∷ ws) = append-nil (w ∷ ws)
 
@@ -284,7 +285,7 @@ module _ (caller : Caller) (moment : ℕ) (log : List Commit) (ops : List Op) (g
 
   done_shown : (judged : has_fault (judgement_at caller moment log ops) ≡ false) (op : Op) (d : Bool) → (d ≡ false → list_any (λ (t : Putting). same (name_of_op op) (name_of_put t)) (puts_in ops guids) ≡ true)
       → (o : Option Record) → record_at (working its_request) (name_of_op op) ≡ o
-      → IsShownWritten (writes its_request (removed its_request)) (if d then Deleted (name_of_op op) else option_map_or (λ r. Answered (stamped its_request r)) o (Deleted (name_of_op op)))
+      → IsShownWritten (writes its_request (removed its_request)) (option_map_or (λ r. Answered (stamped its_request r)) (if d then None else o) (Deleted (name_of_op op)))
   done_shown judged op true offered o is = tt
   done_shown judged op false offered None is = tt
   done_shown judged op false offered (Some r) is =
@@ -321,7 +322,7 @@ module _ (caller : Caller) (moment : ℕ) (log : List Commit) (ops : List Op) (g
   refused_zip ws (op ∷ some) (Some fault ∷ faults) all = (tt, refused_zip ws some faults all)
 
   shown_at : (b : Bool) → has_fault (judgement_at caller moment log ops) ≡ b → AllByRecursion (IsShownWritten (writes_made (if b then [] else effect its_request))) (modified_as_one caller moment log ops guids).outcomes
-  shown_at true judged = refused_zip [] ops (judgement_at caller moment log ops) (all-refused (faults_from (grounds_of caller (name_history log caller.key ops) (view_of log caller.user caller.scope caller.key).rows ops) [] ops) judged)
+  shown_at true judged = refused_zip [] ops (judgement_at caller moment log ops) (all-refused (faults_of (grounds_of caller (name_history log caller.key ops) (view_of log caller.user caller.scope caller.key).rows ops) ops) judged)
   shown_at false judged = subst (λ ws. AllByRecursion (IsShownWritten ws) (modified_as_one caller moment log ops guids).outcomes) (sym (made_writes its_request (writes its_request (removed its_request))))
       (shown_zip (writes its_request (removed its_request)) ops (judgement_at caller moment log ops) (all_done judged ops guids (λ x i. i)))
 
@@ -332,7 +333,10 @@ pub outcomes_written : OutcomesAreWritten
 outcomes_written caller moment log ops guids lawful there roots = shown_at caller moment log ops guids lawful there roots (has_fault (judgement_at caller moment log ops)) refl
 
 pub shared_writes_allowed : SharedWritesAreAllowed
-shared_writes_allowed caller moment log ops guids shared lawful there roots = allowed_at caller moment log ops guids lawful there roots shared
+shared_writes_allowed = record {
+  writes = λ caller moment log ops guids shared lawful there roots. allowed_at caller moment log ops guids lawful there roots shared;
+  asked = asked_permitted;
+}
 
 -- ---- any least set
 
@@ -345,8 +349,7 @@ writes_alike : (q : Request) (some gone : List (List ℕ)) → ((x : List ℕ) �
 writes_alike q some gone is i = filter_map (λ (r : Record).
     let unmarked : Bool = not (is r.name i) && list_any (λ (s : Record). is_share_of r.name s && is s.name i) (after_puts q) in
     let written : Bool = is_put q r.name || (is_left q r || unmarked) in
-    if is r.name i then Some (if written then PutRemove r.name else Remove r.name)
-    else (if written then Some (Put (record (stamped q r) { share = if unmarked then None else r.share })) else None)) (after_puts q)
+    write_as (is r.name i) written (record (stamped q r) { share = if unmarked then None else r.share })) (after_puts q)
 
 least_writes : (q : Request) (gone : List (List ℕ)) → IsLeast (after_puts q) (names_taken q.caller q.seen q.ops) gone → writes q gone ≡ writes q (removed q)
 least_writes q gone least = writes_alike q gone (removed q) (λ x.

@@ -1,5 +1,5 @@
 // What holds of the rules. The functions do nothing: their clauses are the laws.
-ghost use Rattle.zone_laws.specs.Answering.{EachIsAnswered, StampsAreSet, OutcomesAreWritten, SharedWritesAreAllowed, AnyLeastSetWillDo, MadeWhereWritten};
+ghost use Rattle.zone_laws.specs.Answering.{EachIsAnswered, StampsAreSet, OutcomesAreWritten, DeletionsAreWritten, SharedWritesAreAllowed, AnyLeastSetWillDo, MadeWhereWritten};
 ghost use Rattle.zone_laws.specs.Following.{PagesHold, FeedsTellAll, SeenIsTold};
 ghost use Rattle.zone_laws.specs.People.{NobodyIsLetIn};
 ghost use Rattle.zone_laws.specs.Lives.{LivesAreKept};
@@ -206,8 +206,14 @@ pub fn outcomes_are_written()
     ensures { OutcomesAreWritten }
 {}
 
+/// What an outcome shows of a deletion is what its commit removed, where the caller saw the name; or,
+/// of a share in the shared scope, that its user left.
+pub fn deletions_are_written()
+    ensures { DeletionsAreWritten }
+{}
+
 /// In the shared scope a request writes only what it asks for, what its user leaves and what the
-/// cascade makes of it.
+/// cascade makes of it; and where it writes, each of its operations is permitted.
 pub fn shared_writes_are_allowed()
     ensures { SharedWritesAreAllowed }
 {}

@@ -1,7 +1,7 @@
 -- Lists that grow, and the items of a seat.
-use Rattle.std.proofs.Common.{◌≡◌, ◌≢◌, ℕ, ◌≤◌, nat_eq, List, [], ◌∷◌, ◌++◌, length, sym, refl, ap, ◌∙◌, arith, Bool, true, false, append-nil, append_assoc, ne_eqb, eq-eqb, cond}
+use Rattle.std.proofs.Common.{◌≡◌, ◌≢◌, ℕ, ◌≤◌, nat_eq, List, [], ◌∷◌, ◌++◌, length, sym, refl, ap, ◌∙◌, arith, Bool, true, false, append-nil, append_assoc, ne_eqb, eq-eqb, cond, length-append, Option, Some, None}
 use Rattle.std.proofs.lemmas.List.Elements.{filter-append}
-use Rattle.zone_locks.specs.Growing.{StartsWith, own, AreOf, GrownBy}
+use Rattle.zone_locks.specs.Growing.{StartsWith, own, own_of, AreOf, GrownBy, after_front}
 
 pub left_nil : {A : Type 0} (xs ys : List A) → xs ++ ys ≡ [] → xs ≡ []
 left_nil [] ys e = refl
@@ -27,6 +27,19 @@ head_or d (x ∷ xs) = x
 head_same : {A : Type 0} {x y : A} {xs ys : List A} → x ∷ xs ≡ y ∷ ys → x ≡ y
 head_same {x = x} e = ap (head_or x) e
 
+-- what a list has after its front
+pub after_is : {A : Type 0} (front more : List A) → after_front front (front ++ more) ≡ more
+after_is [] more = refl
+after_is (x ∷ xs) more = after_is xs more
+
+-- a front that is no shorter is the whole
+pub front_whole : {A : Type 0} (log front : List A) → StartsWith log front → length log ≤ length front → front ≡ log
+front_whole {A = A} log front f le = sym (f.1 ∙ (ap (λ l. front ++ l) (empty f.0 (omega (arith, ap length f.1, length-append front f.0, le))) ∙ append-nil front))
+  where
+    empty : (xs : List A) → length xs ≡ 0 → xs ≡ []
+    empty [] e = refl
+    empty (x ∷ xs) e = absurd (omega arith)
+
 -- of two beginnings of one list one is a beginning of the other
 pub begin_alike : {A : Type 0} (log xs ys more more' : List A) → log ≡ xs ++ more → log ≡ ys ++ more' → length xs ≤ length ys → StartsWith ys xs
 begin_alike log [] ys more more' a b le = (ys, refl)
@@ -48,6 +61,11 @@ module _ {I : Type 0} (seat_of : I → ℕ) where
   own_others k (x ∷ xs) all j ne =
       let no_head : nat_eq (seat_of x) j ≡ false = ne_eqb (seat_of x) j (λ e. ne (sym e ∙ all.0)) in
       ap (λ b. cond b (x ∷ own seat_of j xs) (own seat_of j xs)) no_head ∙ own_others k xs all.1 j ne
+
+  -- the items of a seat that has added nothing
+  pub own_of_same : (log log' : List I) (seat : Option ℕ) → ((k : ℕ) → seat ≡ Some k → own seat_of k log' ≡ own seat_of k log) → own_of seat_of seat log' ≡ own_of seat_of seat log
+  own_of_same log log' None f = refl
+  own_of_same log log' (Some k) f = f k refl
 
   pub own_all : (k : ℕ) (added : List I) → AreOf seat_of k added → own seat_of k added ≡ added
   own_all k [] all = refl

@@ -5,10 +5,10 @@ use Rattle.atomic_table.specs.Seated.{TableId}
 use Rattle.zone_locks.specs.declared.rule.View.{View}
 use Rattle.zone_locks.specs.declared.rule.Turned.{Turned}
 use Rattle.zone_locks.specs.declared.rule.Stage.{Stage}
-use Rattle.zone_locks.specs.declared.rule.Stage.TheVariants.{Idle, Waits, In}
+use Rattle.zone_locks.specs.declared.rule.Stage.TheVariants.{Idle, Waits, In, Back}
 use Rattle.zone_locks.specs.Growing.{StartsWith, own, own_of, AreOf, GrownBy, longer}
 use Rattle.zone_locks.specs.Rules.{first_view}
-use Rattle.zone_locks.specs.Steps.{drew_view, entered_view, served_view, told_view, learned_view, Drew, Learned, IsInside}
+use Rattle.zone_locks.specs.Steps.{drew_view, entered_view, back_view, served_view, told_view, learned_view, Drew, Learned, IsInside}
 use Rattle.zone_locks.specs.Passes.{Known, known, turn_of, Rests, IsSound, Took, taking}
 use Rattle.zone_locks.proofs.ListLemmas.{own-append, own_all, own-le}
 use Rattle.zone_locks.proofs.ViewLemmas.{some_same}
@@ -22,12 +22,14 @@ module _ {S : Type 0} where
   outside Idle slots rests none = (refl, rests)
   outside (Waits n) slots rests none = absurd rests
   outside (In n) slots rests none = absurd (cc none)
+  outside (Back n) slots rests none = absurd rests
 
   -- one that has a turn is inside, and holds the empty slot
   pub inside : (stage : Stage) (slots : List (ℕ × Option S)) (ticket : ℕ) → Rests stage slots → turn_of stage ≡ Some ticket → (stage ≡ In ticket) × (slots ≡ (0, None) ∷ [])
   inside Idle slots ticket rests some = absurd (cc some)
   inside (Waits n) slots ticket rests some = absurd rests
   inside (In n) slots ticket rests some = (ap In (some_same n ticket some), rests)
+  inside (Back n) slots ticket rests some = absurd rests
 
 module _ {I : Type 0} (seat_of : I → ℕ) where
   -- the items that are added are counted
@@ -74,17 +76,17 @@ module _ {T I : Type 0} (seat_of : I → ℕ) where
       let is : m2 ≡ (entered_view (drew_view m.0 ticket) ticket found, (0, None) ∷ []) = within.is ∙ ap (λ (y : Sat T I). (entered_view y.0 ticket found, (0, None) ∷ [])) drew.is in
       subst (λ (y : Sat T I). IsSound seat_of (Some (unwrap_or number (ticket + 1))) count y) (sym is) record {
         rests = refl;
-        labelled = sound.labelled;
+        quiet = sound.quiet;
         numbered = ap (λ o. Some (unwrap_or o (ticket + 1))) sound.numbered;
         counts = sound.counts ∙ ap length (sym (own_found m m1 m2 number count ticket found sound drew within) ∙ ap (λ o. own seat_of (unwrap_or o (ticket + 1)) found) sound.numbered);
       }
 
   -- what a give leaves
-  pub gave_sound : (lock : TableId) (k : Known I) (m m' : Sat T I) (number : Option ℕ) (count seat found : ℕ) (after : List I) → known lock m ≡ k → IsSound seat_of number count m
-      → k.seat ≡ Some seat → GrownBy seat_of seat k.seen after → found ≡ length k.seen → m' ≡ (served_view m.0 after, []) → IsSound seat_of number (count + (length after - found)) m'
-  gave_sound lock k m m' number count seat found after view sound sits grown len is = subst (λ (y : Sat T I). IsSound seat_of number (count + (length after - found)) y) (sym is) record {
+  pub gave_sound : (lock : TableId) (k : Known I) (m back m' : Sat T I) (number : Option ℕ) (count seat found ticket : ℕ) (after : List I) → known lock m ≡ k → IsSound seat_of number count m
+      → k.seat ≡ Some seat → GrownBy seat_of seat k.seen after → found ≡ length k.seen → back ≡ (back_view m.0 ticket after, []) → m' ≡ (served_view back.0, []) → IsSound seat_of number (count + (length after - found)) m'
+  gave_sound lock k m back m' number count seat found ticket after view sound sits grown len put is = subst (λ (y : Sat T I). IsSound seat_of number (count + (length after - found)) y) (sym (is ∙ ap (λ (y : Sat T I). (served_view y.0, [])) put)) record {
     rests = refl;
-    labelled = sound.labelled;
+    quiet = sound.quiet;
     numbered = sound.numbered;
     counts = counted seat_of k.seen after seat count found grown (own_count lock k m number count seat view sound sits) len ∙ ap length (sym (ap (λ o. own_of seat_of o after) (ap (λ (x : Known I). x.seat) view ∙ sits)));
   }
@@ -112,11 +114,11 @@ module _ {T I : Type 0} (seat_of : I → ℕ) where
       let now : m' ≡ (learned_view (told_view v u), slots) = learned.is ∙ ap (λ (y : Sat T I). (learned_view y.0, y.1)) is in
       subst (λ (y : Sat T I). IsSound seat_of number count y) (sym now) record {
         rests = sound.rests;
-        labelled = sound.labelled;
+        quiet = refl;
         numbered = sound.numbered;
         counts = sound.counts ∙ ap length (met_own v u slots m m' is learned ∙ ap (λ (y : Sat T I). own_of seat_of y.0.seat y.0.seen) now);
       }
 
   -- the first pass
-  pub first_sound : (m : Sat T I) (label count : ℕ) (items : List I) → m ≡ (first_view label items, []) → count ≡ length items → AreOf seat_of 0 items → IsSound seat_of (Some 0) count m
-  first_sound m label count items is len all = subst (λ (y : Sat T I). IsSound seat_of (Some 0) count y) (sym is) record { rests = refl; labelled = refl; numbered = refl; counts = len ∙ ap length (sym (own_all seat_of 0 items all)) }
+  pub first_sound : (m : Sat T I) (count : ℕ) (items : List I) → m ≡ (first_view items, []) → count ≡ length items → AreOf seat_of 0 items → IsSound seat_of (Some 0) count m
+  first_sound m count items is len all = subst (λ (y : Sat T I). IsSound seat_of (Some 0) count y) (sym is) record { rests = refl; quiet = refl; numbered = refl; counts = len ∙ ap length (sym (own_all seat_of 0 items all)) }

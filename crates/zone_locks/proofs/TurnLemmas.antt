@@ -9,7 +9,7 @@ use Rattle.zone_locks.specs.Growing.{StartsWith, own}
 use Rattle.zone_locks.specs.Rules.{IsKept}
 use Rattle.zone_locks.specs.Steps.{entered_view, StandsFor, Entered, IsInside}
 
-module _ {T I : Type 0} (items : T → List I) (label_of : T → ℕ) (seat_of : I → ℕ) (label : ℕ) where
+module _ {T I : Type 0} (items : T → List I) (seat_of : I → ℕ) where
   abbrev Slot : Type 0
   Slot = Option (Turned T)
 
@@ -23,32 +23,21 @@ module _ {T I : Type 0} (items : T → List I) (label_of : T → ℕ) (seat_of :
   Homes = List (maybe.Option Slot)
 
   abbrev Rule : St → Type 0
-  Rule = IsKept items label_of seat_of label
+  Rule = IsKept items seat_of
 
   -- what the exchange leaves of an entry
-  pub entered_out : (m m' m'' : Sat) (n : ℕ) (x : Option (Turned T)) (t : Turned T) → m.1 ≡ [] → Entered items label_of seat_of n m m' → m'.1 ≡ (0, x) ∷ rest m'.1 → x ≡ Some t → m'' ≡ (m'.0, (0, None) ∷ rest m'.1)
+  pub entered_out : (m m' m'' : Sat) (n : ℕ) (x : Option (Turned T)) (t : Turned T) → m.1 ≡ [] → Entered items seat_of n m m' → m'.1 ≡ (0, x) ∷ rest m'.1 → x ≡ Some t → m'' ≡ (m'.0, (0, None) ∷ rest m'.1)
       → IsInside seat_of n (items t.value) m m''
   entered_out m m' m'' n x t empty e was is now =
       let cs : m'.1 ≡ (0, e.slot) ∷ [] = ap (λ (y : Sat). y.1) e.is ∙ ap (λ l. (0, e.slot) ∷ l) empty in
       let x_is : e.slot ≡ Some t = sym (ap (λ l. said l) cs) ∙ (ap (λ l. said l) was ∙ is) in
-      let mine : items t.value ≡ e.log = (subst (λ o. StandsFor items label_of o n e.log m.0.label) x_is e.stands).0.0 in
+      let mine : items t.value ≡ e.log = (subst (λ o. StandsFor items o n e.log) x_is e.stands).0 in
       let v : m'.0 ≡ entered_view m.0 n (items t.value) = ap (λ (y : Sat). y.0) e.is ∙ ap (λ l. entered_view m.0 n l) (sym mine) in
       record {
         is = now ∙ λ i. (v i, (0, None) ∷ rest (cs i));
         continues = subst (λ l. StartsWith l m.0.seen) (sym mine) e.continues;
         own_is = λ k is. ap (own seat_of k) mine ∙ e.own_is k is;
       }
-    where
-      said : List (ℕ × Slot) → Slot
-      said [] = None
-      said (y ∷ ys) = y.1
-
-  -- and the value has the lock's label
-  pub entered_fits : (m m' : Sat) (n : ℕ) (x : Option (Turned T)) (t : Turned T) → m.1 ≡ [] → Entered items label_of seat_of n m m' → m'.1 ≡ (0, x) ∷ rest m'.1 → x ≡ Some t → (k : ℕ) → m.0.label ≡ Some k → label_of t.value ≡ k
-  entered_fits m m' n x t empty e was is =
-      let cs : m'.1 ≡ (0, e.slot) ∷ [] = ap (λ (y : Sat). y.1) e.is ∙ ap (λ l. (0, e.slot) ∷ l) empty in
-      let x_is : e.slot ≡ Some t = sym (ap (λ l. said l) cs) ∙ (ap (λ l. said l) was ∙ is) in
-      (subst (λ o. StandsFor items label_of o n e.log m.0.label) x_is e.stands).0.1
     where
       said : List (ℕ × Slot) → Slot
       said [] = None

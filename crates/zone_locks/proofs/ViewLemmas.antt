@@ -1,6 +1,8 @@
 -- What one changed view means for all of them.
 use Rattle.std.proofs.Common.{◌≡◌, ◌≢◌, ℕ, zero, suc, List, [], ◌∷◌, set, sym, refl, ap, ◌∙◌, subst, ⊎_elim, Option, Some, unwrap_or}
 use mathlib.Core.Option.{some, some-ne-none, some-injective}
+use mathlib.Core.Logic.{dite}
+use native.Mathlib.Decide.{ℕ_discrete}
 use lib.ListN.{get_elem?}
 use Rattle.atomic_table.proofs.Lists.{at_set, set_else}
 use Rattle.zone_locks.specs.declared.rule.View.{View}
@@ -41,3 +43,10 @@ module _ {I : Type 0} where
   here_set [] me v w at = absurd (some-ne-none v (sym at))
   here_set (x ∷ xs) zero v w at = refl
   here_set (x ∷ xs) (suc me) v w at = here_set xs me v w at
+
+  -- what some view has, some view still has, where mine keeps it
+  pub changes : (P : View I → Type 0) (vs : List (View I)) (me : ℕ) (v w : View I) → get_elem? vs me ≡ some v → (P v → P w) → (j : ℕ) × (u : View I) × (get_elem? vs j ≡ some u) × P u
+      → (j : ℕ) × (u : View I) × (get_elem? (set vs me w) j ≡ some u) × P u
+  changes P vs me v w at keep h = dite (ℕ_discrete h.0 me)
+      (λ e. (me, w, here_set vs me v w at, keep (subst P (some-injective h.1 v (sym h.2 ∙ (ap (get_elem? vs) e ∙ at))) h.3)))
+      (λ ne. (h.0, h.1, set_else vs me h.0 w ne ∙ h.2, h.3))

@@ -1,5 +1,5 @@
 -- Lists that grow, and the items of a seat in them.
-use Rattle.std.specs.Prelude.{◌≡◌, ℕ, List, [], ◌++◌, length, nat_eq, nat_le, Option, Some, None, Bool, true, false}
+use Rattle.std.specs.Prelude.{◌≡◌, ℕ, List, [], ◌++◌, length, drop, nat_eq, nat_le, Option, Some, None, Bool, true, false}
 use Rattle.std.specs.List.{filter, AllByRecursion}
 
 -- the second list is the front of the first
@@ -22,6 +22,10 @@ AreOf seat_of seat items = AllByRecursion (λ item. seat_of item ≡ seat) items
 -- the list is the one before, and then items of that seat
 abbrev pub GrownBy : {I : Type 0} → (I → ℕ) → ℕ → List I → List I → Type 0
 GrownBy {I} seat_of seat before after = (added : List I) × (after ≡ before ++ added) × AreOf seat_of seat added
+
+-- what the second list has after the first
+abbrev pub after_front : {I : Type 0} → List I → List I → List I
+after_front before after = drop (length before) after
 
 abbrev pub second_if : {I : Type 0} → Bool → List I → List I → List I
 second_if true xs ys = ys

@@ -9,9 +9,6 @@ pub trait Grows {
 
     ghost seat_of: { Self.Item → ℕ };
 
-    /// What never changes of it.
-    ghost label: { Self → ℕ };
-
     /// How long the list is.
     fn len(&self) -> u64
         ensures { result ≡ length (items self.now) };

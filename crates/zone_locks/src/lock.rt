@@ -1,14 +1,14 @@
 // The lock.
 ghost use Rattle.std.specs.Prelude.{◌≡◌, ◌≢◌, ◌<◌, ◌+◌, ◌^◌, ℕ, Some, None, [], ◌∷◌, ◌⊎◌, length, unwrap_or, IfOk, MatchBool, MatchResult};
 ghost use Rattle.zone_locks.specs.Growing.{StartsWith, AreOf, GrownBy, own_of, longer};
-ghost use Rattle.zone_locks.specs.Steps.{Drew, Entered, IsInside, served_view};
+ghost use Rattle.zone_locks.specs.Steps.{Drew, Entered, IsInside, back_view, served_view};
 ghost use Rattle.zone_locks.specs.Passes.{Took, HasTaken, first_pass, newcomer, having_seen};
-ghost use Rattle.zone_locks.specs.declared.rule.Stage.TheVariants.{Idle, Waits, In};
+ghost use Rattle.zone_locks.specs.declared.rule.Stage.TheVariants.{Idle, Waits, In, Back};
 
 use crate::grows::Grows;
 use crate::pass::{Held, Pass};
 use crate::rule::{Turned, Turns, View};
-use crate::steps::{Cut, Draw, Glue, Learn, Look, Serve};
+use crate::steps::{Cut, Draw, Glue, Learn, Look, Note, Serve};
 use atomic_table::{Seat, Table};
 use ck_base::NoMemory;
 use std::alloc::Global;
@@ -77,7 +77,7 @@ impl<T: Grows> ZoneLock<T> {
         requires lock { seat.old.table_id ≡ self.now }
         requires waits { (seat.old.me.0.stage ≡ Waits ticket) × (seat.old.me.1 ≡ []) }
         ensures lock { seat.new.table_id ≡ seat.old.table_id }
-        ensures looked { MatchBool result (Entered T.items T.label T.seat_of ticket seat.old.me seat.new.me) (seat.new.me ≡ seat.old.me) }
+        ensures looked { MatchBool result (Entered T.items T.seat_of ticket seat.old.me seat.new.me) (seat.new.me ≡ seat.old.me) }
     {
         self.table.shared.load::<Look>(seat, 1) == ticket
     }
@@ -91,7 +91,7 @@ impl<T: Grows> ZoneLock<T> {
         requires lock { seat.old.table_id ≡ self.now }
         requires waits { (seat.old.me.0.stage ≡ Waits ticket) × (seat.old.me.1 ≡ []) }
         ensures lock { seat.new.table_id ≡ seat.old.table_id }
-        ensures entered { Entered T.items T.label T.seat_of ticket seat.old.me seat.new.me }
+        ensures entered { Entered T.items T.seat_of ticket seat.old.me seat.new.me }
     {
         for _ in rt.forever() {
             if self.look(seat, ticket) {
@@ -102,7 +102,7 @@ impl<T: Grows> ZoneLock<T> {
     }
 
     // Waits until the ticket is served, and moves the value out.
-    #[tactic(auto, using(crate::proofs::TurnLemmas::entered_out, crate::proofs::TurnLemmas::entered_fits))]
+    #[tactic(auto, using(crate::proofs::TurnLemmas::entered_out))]
     fn enter<R: Wait>(
         &self,
         seat: &mut Seat<Option<Turned<T>>, View<T::Item>>,
@@ -112,7 +112,6 @@ impl<T: Grows> ZoneLock<T> {
         requires lock { seat.old.table_id ≡ self.now }
         requires waits { (seat.old.me.0.stage ≡ Waits ticket) × (seat.old.me.1 ≡ []) }
         ensures lock { seat.new.table_id ≡ seat.old.table_id }
-        ensures label { (k : ℕ) → seat.old.me.0.label ≡ Some k → T.label result ≡ k }
         ensures inside { IsInside T.seat_of ticket (T.items result) seat.old.me seat.new.me }
     {
         self.wait_turn(seat, rt, ticket);
@@ -121,8 +120,8 @@ impl<T: Grows> ZoneLock<T> {
         turned.value
     }
 
-    // Moves the value back for the next ticket, and serves that.
-    fn serve(
+    // Moves the value back for the next ticket, and notes its list.
+    fn put_back(
         &self,
         seat: &mut Seat<Option<Turned<T>>, View<T::Item>>,
         value: T,
@@ -132,16 +131,28 @@ impl<T: Grows> ZoneLock<T> {
         requires lock { seat.old.table_id ≡ self.now }
         requires room { ticket + 1 < 2 ^ 64 }
         requires inside { (seat.old.me.0.stage ≡ In ticket) × (seat.old.me.1 ≡ (0, None) ∷ []) × (seat.old.me.0.seat ≡ Some number) }
-        requires label { seat.old.me.0.label ≡ Some (T.label value) }
         requires grown { GrownBy T.seat_of number seat.old.me.0.seen (T.items value) }
         ensures lock { seat.new.table_id ≡ seat.old.table_id }
-        ensures served { seat.new.me ≡ (served_view seat.old.me.0 (T.items value), []) }
+        ensures back { seat.new.me ≡ (back_view seat.old.me.0 ticket (T.items value), []) }
     {
-        let next = ticket + 1;
-        let back = Some(Turned { value, turn: next });
+        let back = Some(Turned {
+            value,
+            turn: ticket + 1,
+        });
         let was = self.table.shared.exchange(seat, 0, back);
         let None = was else { unreachable!() };
-        self.table.shared.store::<Serve>(seat, 1, next);
+        self.table.shared.load::<Note>(seat, 1);
+    }
+
+    // Serves the next ticket, once the value is back for it.
+    fn serve(&self, seat: &mut Seat<Option<Turned<T>>, View<T::Item>>, ticket: u64)
+        requires lock { seat.old.table_id ≡ self.now }
+        requires room { ticket + 1 < 2 ^ 64 }
+        requires back { (seat.old.me.0.stage ≡ Back ticket) × (seat.old.me.1 ≡ []) }
+        ensures lock { seat.new.table_id ≡ seat.old.table_id }
+        ensures served { seat.new.me ≡ (served_view seat.old.me.0, []) }
+    {
+        self.table.shared.store::<Serve>(seat, 1, ticket + 1);
     }
 
     /// Takes the value, once it is this pass's turn.
@@ -150,7 +161,6 @@ impl<T: Grows> ZoneLock<T> {
         requires lock { pass.old.lock ≡ self.now }
         requires out { pass.old.turn ≡ None }
         ensures took { Took T.seat_of pass.old pass.new (T.items result.value) result.ticket result.seat result.count }
-        ensures label { T.label result.value ≡ pass.old.label }
         ensures len { result.found ≡ length (T.items result.value) }
         ensures lock { result.lock.value ≡ self.now }
     {
@@ -174,7 +184,6 @@ impl<T: Grows> ZoneLock<T> {
         requires lock { pass.old.lock ≡ self.now }
         requires held { held.lock.value ≡ self.now }
         requires taken { HasTaken pass.old held.ticket held.seat held.found }
-        requires label { T.label held.value ≡ pass.old.label }
         requires grown { GrownBy T.seat_of held.seat pass.old.seen (T.items held.value) }
         ensures { pass.new ≡ having_seen (T.items held.value) pass.old }
     {
@@ -187,7 +196,8 @@ impl<T: Grows> ZoneLock<T> {
             lock: _,
         } = held;
         let added = value.len() - found;
-        self.serve(&mut pass.seat, value, ticket, seat);
+        self.put_back(&mut pass.seat, value, ticket, seat);
+        self.serve(&mut pass.seat, ticket);
         pass.count += added;
     }
 
@@ -228,7 +238,7 @@ impl<T: Grows + Drop> ZoneLock<T> {
     /// A lock round a value whose items all have seat 0, and its first pass.
     pub fn new(alloc: Global, value: T) -> Result<(ZoneLock<T>, Pass<T>), NoMemory>
         requires { AreOf T.seat_of 0 (T.items value) }
-        ensures { IfOk result (λ made. made.1 ≡ first_pass made.0 (T.label value) (T.items value)) }
+        ensures { IfOk result (λ made. made.1 ≡ first_pass made.0 (T.items value)) }
     {
         let about = Snapshot::of(&value);
         let count = value.len();

@@ -12,7 +12,7 @@ use std::snapshot::Snapshot;
 #[derive(Drop)]
 pub struct Pass<T: Grows> {
     pub(crate) seat: Seat<Option<Turned<T>>, View<T::Item>>,
-    /// The seat of its items, from its first take on.
+    /// The seat of its items: the first pass's is 0, and any other has one from its first take on.
     pub(crate) number: Option<u64>,
     /// How many items of its seat it has seen.
     pub(crate) count: u64,

@@ -18,6 +18,8 @@ pub(crate) enum Stage {
     Idle,
     Waits(u64),
     In(u64),
+    /// The value is back in the slot, and the next ticket is not yet served.
+    Back(u64),
 }
 
 /// What a pass knows. No value of it is made.
@@ -25,13 +27,15 @@ pub(crate) struct View<I> {
     pub seen: LinkedList<I>,
     /// What a pass that it met had seen.
     pub told: LinkedList<I>,
+    /// The list that it has put back.
+    pub put: LinkedList<I>,
+    /// The items that it made.
+    pub made: LinkedList<I>,
     /// One more than its last ticket, or 0.
     pub drawn: u64,
     pub stage: Stage,
-    /// Its seat, from its first ticket on.
+    /// Its seat: the first pass's is 0, and any other has one from its first ticket on.
     pub seat: Option<u64>,
-    /// The label of the lock's value, unless the pass is spent.
-    pub label: Option<u64>,
 }
 
 pub(crate) struct Turns<T> {
@@ -41,7 +45,7 @@ pub(crate) struct Turns<T> {
 impl<T: Grows> TableRule<Option<Turned<T>>, View<T::Item>, Snapshot<T>> for Turns<T> {
     ghost use Rattle.zone_locks.specs.Rules.{IsKept, first_view};
 
-    ghost holds = { λ key. IsKept T.items T.label T.seat_of (T.label key.value) };
+    ghost holds = { λ key. IsKept T.items T.seat_of };
 
-    ghost first = { λ key. first_view (T.label key.value) (T.items key.value) };
+    ghost first = { λ key. first_view (T.items key.value) };
 }

@@ -11,12 +11,9 @@ use Rattle.zone_model.specs.Working.{is_share_of}
 
 -- the records of the whole zone, and the names that deletions take
 module _ (rows : List Record) (taken : List (List ℕ)) where
-  abbrev pub stands_below : List ℕ → Record → Bool
-  stands_below a r = is_some_and (is_ancestor rows a) r.parent
-
   -- The removed name a takes r along: r is to be deleted with a, r stands below a and no deletion takes a, or r is the share of a.
   abbrev pub takes_along : List ℕ → Record → Bool
-  takes_along a r = goes_with a r || ((not (is_in taken a) && stands_below a r) || is_share_of a r)
+  takes_along a r = goes_with a r || ((not (is_in taken a) && is_some_and (is_ancestor rows a) r.parent) || is_share_of a r)
 
   -- a deletion takes the record, or one of these removed names takes it along
   abbrev pub is_due : List (List ℕ) → Record → Bool

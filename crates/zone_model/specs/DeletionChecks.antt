@@ -10,7 +10,7 @@ use Rattle.name_rules.specs.Options.{is_some_and}
 use Rattle.zone_model.specs.Records.{record_at, is_share}
 use Rattle.zone_model.specs.References.{wants, goes_with}
 use Rattle.zone_model.specs.Requests.{is_forced, name_of_op}
-use Rattle.zone_model.specs.Grounds.{Grounds, is_stale, is_writable, Check, first_fault}
+use Rattle.zone_model.specs.Grounds.{Grounds, is_stale, is_writable, first_fault}
 
 -- the record holds x back: it is a child of x or wants it, and neither is taken by a deletion nor goes with a name that one takes
 abbrev pub holds_back : Grounds → List ℕ → Record → Bool
@@ -35,13 +35,10 @@ module _ (g : Grounds) (op : Op) where
   abbrev pub is_held_back : Bool
   is_held_back = is_in g.taken (name_of_op op) && list_any (holds_back g (name_of_op op)) g.working
 
-  abbrev pub deletion_checks : List Check
-  deletion_checks =
+  abbrev pub fault_of_deletion : Option OpFault
+  fault_of_deletion = first_fault (
       (is_missing, NotFound)
       ∷ (is_in_conflict, Conflict)
       ∷ (is_denied, AccessDenied)
       ∷ (is_held_back, Validating)
-      ∷ []
-
-  abbrev pub fault_of_deletion : Option OpFault
-  fault_of_deletion = first_fault deletion_checks
+      ∷ [])

@@ -1,5 +1,5 @@
 -- The commit of a request.
-use Rattle.std.specs.Prelude.{ℕ, suc, Bool, not, ◌||◌, ◌&&◌, List, [], ◌∷◌, map, filter, filter_map, fold, Option, Some, None, if◌then◌else◌}
+use Rattle.std.specs.Prelude.{ℕ, suc, Bool, true, false, not, ◌||◌, ◌&&◌, List, [], ◌∷◌, map, filter, filter_map, fold, Option, Some, None, if◌then◌else◌}
 use Rattle.std.specs.List.{list_any}
 use Rattle.record_model.specs.declared.records.Stamp.{Stamp}
 use Rattle.record_model.specs.declared.records.Body.{Body}
@@ -15,7 +15,7 @@ use Rattle.zone_model.specs.Records.{is_there, with_record, is_share}
 use Rattle.zone_model.specs.Views.{is_empty}
 use Rattle.zone_model.specs.Requests.{Caller, Putting, puts_in, name_of_put, names_deleted}
 use Rattle.share_records.specs.ShareLists.{share_without}
-use Rattle.zone_model.specs.Working.{is_share_of, working_view}
+use Rattle.zone_model.specs.Working.{is_share_of, is_new_share_of, working_view}
 use Rattle.zone_model.specs.Grounds.{names_taken}
 use Rattle.zone_model.specs.Cascade.{removed_names}
 
@@ -40,16 +40,13 @@ module _ (q : Request) where
 
   -- ---- what is put
 
-  abbrev pub is_new_share_of : List ℕ → Record → Bool
-  is_new_share_of root r = is_share_of root r && not (is_there q.seen r.name)
-
   -- the request puts the name
   abbrev pub is_asked : List ℕ → Bool
   is_asked x = list_any (λ (p : Putting). same x (name_of_put p)) (puts_in q.ops q.guids)
 
   -- a new share marks the name as its root
   abbrev pub is_marked : List ℕ → Bool
-  is_marked x = list_any (is_new_share_of x) working
+  is_marked x = list_any (is_new_share_of q.seen x) working
 
   abbrev pub is_put : List ℕ → Bool
   is_put x = is_asked x || is_marked x
@@ -83,6 +80,13 @@ module _ (q : Request) where
     modified = stamp;
   }
 
+-- The write of a record, by whether it is removed and whether it is written. Both at once is written as that.
+abbrev pub write_as : Bool → Bool → Record → Option Write
+write_as true true r = Some (PutRemove r.name)
+write_as true false r = Some (Remove r.name)
+write_as false true r = Some (Put r)
+write_as false false r = None
+
 -- where these names are removed
 module _ (q : Request) (gone : List (List ℕ)) where
   -- it stays and its share goes, so that it is marked no more
@@ -96,11 +100,8 @@ module _ (q : Request) (gone : List (List ℕ)) where
   abbrev pub final : Record → Record
   final r = record (stamped q r) { share = if is_unmarked r then None else r.share }
 
-  -- a record that is both put and removed is written as that at once
   abbrev pub write_of : Record → Option Write
-  write_of r =
-      if is_in gone r.name then Some (if is_written r then PutRemove r.name else Remove r.name)
-      else (if is_written r then Some (Put (final r)) else None)
+  write_of r = write_as (is_in gone r.name) (is_written r) (final r)
 
   -- in ascending order of names, as the records stand
   abbrev pub writes : List Write

@@ -4,13 +4,15 @@ use Rattle.std.specs.List.{flat_map}
 use Rattle.zone_model.specs.declared.commits.Commit.{Commit}
 use Rattle.zone_model.specs.declared.events.Origin.{Origin}
 use Rattle.zone_model.specs.declared.events.Event.{Event}
-use Rattle.zone_model.specs.declared.events.Event.TheVariants.{Made}
+use Rattle.zone_model.specs.declared.events.Event.TheVariants.{Made, StoreFailed}
 
 abbrev pub origin_of : Event → Origin
 origin_of (Made origin commits) = origin
+origin_of (StoreFailed origin before after) = origin
 
 abbrev pub commits_of : Event → List Commit
 commits_of (Made origin commits) = commits
+commits_of (StoreFailed origin before after) = []
 
 -- the commits of a history, in order
 abbrev pub log_of : List Event → List Commit

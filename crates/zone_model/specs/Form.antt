@@ -9,13 +9,12 @@ use Rattle.record_model.specs.Counts.{is_counted}
 use Rattle.record_model.specs.declared.filter.Filter.{Filter}
 use Rattle.record_model.specs.declared.subscription.SubKind.{SubKind}
 use Rattle.record_model.specs.declared.subscription.Subscription.{Subscription}
-use Rattle.record_model.specs.declared.subscription.Fires.{Fires}
 use Rattle.record_model.specs.Fits.{fits}
 use Rattle.record_model.specs.RecordForms.{IsStored}
 use Rattle.zone_model.specs.declared.commits.Write.{Write}
 use Rattle.zone_model.specs.declared.commits.Write.TheVariants.{Put, Remove, PutRemove}
 use Rattle.zone_model.specs.declared.commits.Act.{Act}
-use Rattle.zone_model.specs.declared.commits.Act.TheVariants.{Writes, MakeZone, DropZone, SetSubscription, DropSubscription}
+use Rattle.zone_model.specs.declared.commits.Act.TheVariants.{Writes, SetSubscription, DropSubscription}
 use Rattle.zone_model.specs.declared.commits.Commit.{Commit}
 use Rattle.zone_model.specs.Limits.{most_filters}
 use Rattle.zone_model.specs.Zones.{written_name}
@@ -51,21 +50,17 @@ IsOfKind SubKind.Query None filters = ⊥
 IsOfKind SubKind.Query (Some rtype) filters = IsName rtype × (length filters ≤ most_filters) × AllByRecursion IsFilter filters
 
 -- it fires on something
-abbrev pub fires_at_all : Fires → Bool
-fires_at_all f = f.create || (f.update || f.delete)
-
 pub record IsKeptSubscription (s : Subscription) : Type 0 where
   pub named : (id : List ℕ) × (s.id ≡ Some id) × IsName id
   pub key : IsKey s.key
-  pub fires : fires_at_all s.fires ≡ true
+  pub fires : (s.fires.create || (s.fires.update || s.fires.delete)) ≡ true
   pub kind : IsOfKind s.kind s.rtype s.filters
 
 abbrev pub IsActInForm : Act → Type 0
 IsActInForm (Writes ws) = AreWrites ws
-IsActInForm MakeZone = Unit {0}
-IsActInForm DropZone = Unit {0}
 IsActInForm (SetSubscription s) = IsKeptSubscription s
 IsActInForm (DropSubscription scope id) = IsName id
+IsActInForm _ = Unit {0}
 
 pub record IsInForm (c : Commit) : Type 0 where
   pub key : IsKey c.key

@@ -1,5 +1,5 @@
 -- Which operation of a request gives a name again: that of a record, or that of a root for a share.
-use Rattle.std.specs.Prelude.{ℕ, Bool, false, if◌then◌else◌, List, [], ◌∷◌, ◌++◌, bytes_eq, Option, None, Some, option_map}
+use Rattle.std.specs.Prelude.{ℕ, zero, suc, Bool, false, if◌then◌else◌, List, length, take, slice_get, bytes_eq, Option, None, Some, option_map, option_and_then}
 use Rattle.std.specs.List.{list_any}
 use Rattle.std.specs.Option.{option_or, option_map_or}
 use Rattle.record_model.specs.declared.draft.ForRoot.{ForRoot}
@@ -24,10 +24,15 @@ if_any has ops (Some name) = if list_any (has name) ops then Some name else None
 abbrev pub again : List Op → Op → Option (List ℕ)
 again earlier op = option_or (if_any names_record earlier op.draft.name) (if_any names_root earlier (share_root_of op))
 
--- the name of the first of the operations that names one again
-abbrev pub first_again : List Op → List Op → Option (List ℕ)
-first_again earlier [] = None
-first_again earlier (op ∷ ops) = option_or (again earlier op) (first_again (earlier ++ op ∷ []) ops)
+-- the name that the operation at a place gives again
+abbrev pub again_at : List Op → ℕ → Option (List ℕ)
+again_at ops at = option_and_then (again (take at ops)) (slice_get ops at)
 
+-- what stands at the least of the first n places that have something
+abbrev pub first_of : {A : Type 0} → (ℕ → Option A) → ℕ → Option A
+first_of at zero = None
+first_of at (suc n) = option_or (first_of at n) (at n)
+
+-- the name that is given again first
 abbrev pub named_again : List Op → Option (List ℕ)
-named_again ops = first_again [] ops
+named_again ops = first_of (again_at ops) (length ops)

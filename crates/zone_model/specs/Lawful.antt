@@ -1,6 +1,6 @@
 -- Which commits may follow.
 use Rattle.std.specs.Prelude.{◌≡◌, ℕ, suc, Bool, true, not, ◌&&◌, ◌==◌, nat_le, List, [], ◌∷◌, ◌++◌, length, is_none}
-use Rattle.std.specs.List.{list_all}
+use Rattle.std.specs.List.{list_any, list_all}
 use Rattle.share_records.specs.declared.share.Share.{Share as ShareOf}
 use Rattle.record_model.specs.declared.records.Record.{Record}
 use Rattle.record_model.specs.declared.subscription.Subscription.{Subscription}
@@ -16,7 +16,7 @@ use Rattle.zone_model.specs.Names.{same, same_option, is_default}
 use Rattle.name_rules.specs.Options.{is_some_and, is_none_or}
 use Rattle.zone_model.specs.Records.{record_at, is_there, share_of, is_share}
 use Rattle.zone_model.specs.Zones.{Zone, zone_at, puts_at, after_act}
-use Rattle.zone_model.specs.Subscriptions.{subscriptions_at, has_subscription}
+use Rattle.zone_model.specs.Subscriptions.{subscriptions_at, is_subscription}
 use Rattle.zone_model.specs.Ancestry.{is_ancestor}
 use Rattle.zone_model.specs.Working.{is_share_of}
 use Rattle.zone_model.specs.Form.{IsInForm}
@@ -58,8 +58,7 @@ are_well_formed rows = list_all (fits_in rows) rows
 -- a put has the next tag
 abbrev pub has_next_tag : (List ℕ → ℕ) → Write → Bool
 has_next_tag puts (Put r) = r.tag == suc (puts r.name)
-has_next_tag puts (Remove x) = true
-has_next_tag puts (PutRemove x) = true
+has_next_tag puts _ = true
 
 -- a put keeps the parent of a record that is there, and a name that is only removed is there
 abbrev pub has_its_place : List Record → Write → Bool
@@ -77,7 +76,7 @@ is_lawful_act z puts subs key (Writes ws) = z.there && (list_all (is_lawful_writ
 is_lawful_act z puts subs key MakeZone = not z.there
 is_lawful_act z puts subs key DropZone = z.there && not (is_default key)
 is_lawful_act z puts subs key (SetSubscription s) = true
-is_lawful_act z puts subs key (DropSubscription scope id) = has_subscription subs scope id
+is_lawful_act z puts subs key (DropSubscription scope id) = list_any (is_subscription scope id) subs
 
 -- a commit in its form may follow the log
 abbrev pub is_lawful : List Commit → Commit → Bool

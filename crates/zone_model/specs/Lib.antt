@@ -56,10 +56,6 @@ pub mod Cascade
 pub mod Effect
 -- what a request comes to: its answers and its commits
 pub mod Modifying
--- creations of records that stand alone
-pub mod PlainCreates
--- logs whose commits put one record each
-pub mod OnePuts
 -- the form of a commit
 pub mod Form
 -- which commits may follow

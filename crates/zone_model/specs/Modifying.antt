@@ -6,7 +6,7 @@ use Rattle.ck_base.specs.declared.key.ZoneKey.{ZoneKey}
 use Rattle.record_model.specs.declared.records.Record.{Record}
 use Rattle.zone_model.specs.declared.operations.Op.{Op}
 use Rattle.zone_model.specs.declared.outcomes.OpFault.{OpFault}
-use Rattle.zone_model.specs.declared.outcomes.OpFault.TheVariants.{Exists, NotFound, Conflict, BadRequest, AccessDenied, Validating, Atomic}
+use Rattle.zone_model.specs.declared.outcomes.OpFault.TheVariants.{Conflict}
 use Rattle.zone_model.specs.declared.outcomes.Outcome.{Outcome}
 use Rattle.zone_model.specs.declared.outcomes.Outcome.TheVariants.{Put, Deleted, Refused}
 use Rattle.zone_model.specs.declared.outcomes.Modified.{Modified}
@@ -23,25 +23,16 @@ use Rattle.zone_model.specs.Effect.{Request, working, stamped, effect}
 
 -- ---- the answers
 
--- the record whose tag is another one: that of the name, or else the root
-abbrev pub in_conflict : List Record → Op → Option Record
-in_conflict seen op = or_else (record_at seen (name_of_op op)) (option_and_then (record_at seen) (root_given op.draft))
-
--- only a conflict shows a record
+-- only a conflict shows a record, the one whose tag is another: that of the name, or else the root
 abbrev pub shown_with : OpFault → List Record → Op → Option Record
-shown_with Exists seen op = None
-shown_with NotFound seen op = None
-shown_with Conflict seen op = in_conflict seen op
-shown_with BadRequest seen op = None
-shown_with AccessDenied seen op = None
-shown_with Validating seen op = None
-shown_with Atomic seen op = None
+shown_with Conflict seen op = or_else (record_at seen (name_of_op op)) (option_and_then (record_at seen) (root_given op.draft))
+shown_with _ seen op = None
 
--- a put is answered with the record of the working view, whatever goes with the removals
+-- a put is answered with the record of the working view, whatever goes with the removals, and a deletion with its name
 abbrev pub done : Request → Op → Outcome
 done q op =
-    if is_deletion op.kind then Deleted (name_of_op op)
-    else option_map_or (λ r. Put (stamped q r)) (record_at (working q) (name_of_op op)) (Deleted (name_of_op op))
+    let put = if is_deletion op.kind then None else record_at (working q) (name_of_op op) in
+    option_map_or (λ r. Put (stamped q r)) put (Deleted (name_of_op op))
 
 abbrev pub outcome_of : Request → Op × Option OpFault → Outcome
 outcome_of q judged = option_map_or (λ fault. Refused fault (shown_with fault q.seen judged.0)) judged.1 (done q judged.0)

@@ -18,7 +18,7 @@ use Rattle.zone_model.specs.Past.{is_taken}
 use Rattle.zone_model.specs.Requests.{Putting, name_of_put, is_create, is_forced, makes_new, begins_share, parent_given, new_parent, root_given, root_tag_given}
 use Rattle.share_records.specs.ShareLists.{is_refused_list}
 use Rattle.zone_model.specs.Putting.{written_over}
-use Rattle.zone_model.specs.Grounds.{Grounds, is_stale, is_seen, in_working, is_writable, Check, first_fault}
+use Rattle.zone_model.specs.Grounds.{Grounds, is_stale, is_seen, in_working, is_writable, first_fault}
 
 module _ (g : Grounds) (p : Putting) where
   -- the record of the view
@@ -138,15 +138,12 @@ module _ (g : Grounds) (p : Putting) where
   is_dangling = has_bad_parent || (has_bad_root || has_bad_reference)
 
   -- the checks, where puts with these names come earlier in the request
-  abbrev pub put_checks : List (List ℕ) → List Check
-  put_checks earlier =
+  abbrev pub fault_of_put : List (List ℕ) → Option OpFault
+  fault_of_put earlier = first_fault (
       (is_name_taken earlier, Exists)
       ∷ (is_missing, NotFound)
       ∷ (is_in_conflict, Conflict)
       ∷ (has_bad_form, BadRequest)
       ∷ (is_denied, AccessDenied)
       ∷ (is_dangling, Validating)
-      ∷ []
-
-  abbrev pub fault_of_put : List (List ℕ) → Option OpFault
-  fault_of_put earlier = first_fault (put_checks earlier)
+      ∷ [])

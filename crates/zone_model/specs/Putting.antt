@@ -19,12 +19,9 @@ use Rattle.share_records.specs.ShareLists.{first_share}
 abbrev pub with_field : List (List ℕ × Value) → List ℕ × Value → List (List ℕ × Value)
 with_field fields f = filter (λ (g : List ℕ × Value). is_before g.0 f.0) fields ++ f ∷ filter (λ (g : List ℕ × Value). is_before f.0 g.0) fields
 
-abbrev pub without_field : List (List ℕ × Value) → List ℕ → List (List ℕ × Value)
-without_field fields x = filter (λ (g : List ℕ × Value). not (same x g.0)) fields
-
 -- a field that is given takes its place by name, and one without a value goes
 abbrev pub after_wish : List (List ℕ × Value) → List ℕ × Option Value → List (List ℕ × Value)
-after_wish fields wish = option_map_or (λ v. with_field fields (wish.0, v)) wish.1 (without_field fields wish.0)
+after_wish fields wish = option_map_or (λ v. with_field fields (wish.0, v)) wish.1 (filter (λ (g : List ℕ × Value). not (same wish.0 g.0)) fields)
 
 abbrev pub after_wishes : List (List ℕ × Value) → List (List ℕ × Option Value) → List (List ℕ × Value)
 after_wishes fields wishes = fold after_wish fields wishes

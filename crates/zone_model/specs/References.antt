@@ -9,34 +9,25 @@ use Rattle.record_model.specs.declared.records.Record.{Record}
 use Rattle.zone_model.specs.Names.{same}
 
 abbrev pub single_references : Value-F Value → List RefTo
-single_references (Value-F.Int64 n) = []
-single_references (Value-F.Timestamp n) = []
-single_references (Value-F.Text t) = []
-single_references (Value-F.Bytes b) = []
 single_references (Value-F.Reference r) = r ∷ []
-single_references (Value-F.List k vs) = []
+single_references _ = []
 
 abbrev pub level_references : Value-F Value → List RefTo
-level_references (Value-F.Int64 n) = []
-level_references (Value-F.Timestamp n) = []
-level_references (Value-F.Text t) = []
-level_references (Value-F.Bytes b) = []
 level_references (Value-F.Reference r) = r ∷ []
 level_references (Value-F.List k vs) = flat_map (λ v. single_references (out-Value v)) vs
+level_references _ = []
 
 -- the reference that a value is, or those that a list has
 abbrev pub references_in : Value → List RefTo
 references_in v = level_references (out-Value v)
 
 abbrev pub deletes_self : Action → Bool
-deletes_self Action.Plain = false
 deletes_self Action.DeleteSelf = true
-deletes_self Action.Validate = false
+deletes_self _ = false
 
 abbrev pub validates : Action → Bool
-validates Action.Plain = false
-validates Action.DeleteSelf = false
 validates Action.Validate = true
+validates _ = false
 
 abbrev pub has_reference : (RefTo → Bool) → Record → Bool
 has_reference test r = list_any (λ (field : List ℕ × Value). list_any test (references_in field.1)) r.fields

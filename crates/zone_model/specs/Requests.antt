@@ -9,7 +9,7 @@ use Rattle.record_model.specs.declared.draft.ParentWish.{ParentWish}
 use Rattle.record_model.specs.declared.records.Record.{Record}
 use Rattle.record_model.specs.RecordForms.{is_share_type}
 use Rattle.zone_model.specs.declared.operations.OpKind.{OpKind}
-use Rattle.zone_model.specs.declared.operations.OpKind.TheVariants.{Create, Update, ForceUpdate, Replace, ForceReplace, Delete, ForceDelete}
+use Rattle.zone_model.specs.declared.operations.OpKind.TheVariants.{Create, ForceUpdate, Replace, ForceReplace, Delete, ForceDelete}
 use Rattle.zone_model.specs.declared.operations.Op.{Op}
 use Rattle.zone_model.specs.Names.{same}
 use Rattle.name_rules.specs.Options.{is_some_and}
@@ -24,42 +24,26 @@ pub record Caller : Type 0 where
 -- ---- what an operation does
 
 abbrev pub is_deletion : OpKind → Bool
-is_deletion Create = false
-is_deletion Update = false
-is_deletion ForceUpdate = false
-is_deletion Replace = false
-is_deletion ForceReplace = false
 is_deletion Delete = true
 is_deletion ForceDelete = true
+is_deletion _ = false
 
 abbrev pub is_create : OpKind → Bool
 is_create Create = true
-is_create Update = false
-is_create ForceUpdate = false
-is_create Replace = false
-is_create ForceReplace = false
-is_create Delete = false
-is_create ForceDelete = false
+is_create _ = false
 
 -- it asks for no tag
 abbrev pub is_forced : OpKind → Bool
-is_forced Create = false
-is_forced Update = false
 is_forced ForceUpdate = true
-is_forced Replace = false
 is_forced ForceReplace = true
-is_forced Delete = false
 is_forced ForceDelete = true
+is_forced _ = false
 
 -- it drops the fields that are not given
 abbrev pub drops_fields : OpKind → Bool
-drops_fields Create = false
-drops_fields Update = false
-drops_fields ForceUpdate = false
 drops_fields Replace = true
 drops_fields ForceReplace = true
-drops_fields Delete = false
-drops_fields ForceDelete = false
+drops_fields _ = false
 
 -- it puts a record where there is none of its name
 abbrev pub makes_new : OpKind → Bool
@@ -93,12 +77,13 @@ has_share_type d = is_some_and is_share_type d.rtype
 
 -- ---- the operations of a request
 
-abbrev pub deletions_in : List Op → List Op
-deletions_in ops = filter (λ (op : Op). is_deletion op.kind) ops
-
 -- the names that deletions give
 abbrev pub names_deleted : List Op → List (List ℕ)
-names_deleted ops = map name_of_op (deletions_in ops)
+names_deleted ops = map name_of_op (filter (λ (op : Op). is_deletion op.kind) ops)
+
+-- the names that puts give
+abbrev pub names_put : List Op → List (List ℕ)
+names_put ops = map name_of_op (filter (λ (op : Op). not (is_deletion op.kind)) ops)
 
 -- a put, with the GUID that it draws where it gives a root
 pub record Putting : Type 0 where

@@ -25,9 +25,8 @@ same_share a b = same a.root b.root && (same a.guid b.guid && (same_permission a
 
 abbrev pub same_body : Body → Body → Bool
 same_body Plain Plain = true
-same_body Plain (Share b) = false
-same_body (Share a) Plain = false
 same_body (Share a) (Share b) = same_share a b
+same_body _ _ = false
 
 -- values that stand at one place of their order
 abbrev pub same_value : Value → Value → Bool
@@ -51,6 +50,5 @@ same_view v w = same_bool v.here w.here && pointwise same_record v.rows w.rows
 -- a record or none, both times the same
 abbrev pub same_found : Option Record → Option Record → Bool
 same_found None None = true
-same_found None (Some b) = false
-same_found (Some a) None = false
 same_found (Some a) (Some b) = same_record a b
+same_found _ _ = false

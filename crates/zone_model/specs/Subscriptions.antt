@@ -1,6 +1,5 @@
 -- The subscriptions after the commits of a log.
 use Rattle.std.specs.Prelude.{ℕ, Bool, not, ◌||◌, ◌&&◌, nat_lt, ◌==◌, List, [], ◌∷◌, ◌++◌, filter, fold, unwrap_or}
-use Rattle.std.specs.List.{list_any}
 use Rattle.ck_base.specs.Order.{is_before}
 use Rattle.ck_base.specs.KnownNames.{own_default}
 use Rattle.ck_base.specs.declared.key.ZoneKey.{ZoneKey}
@@ -8,7 +7,7 @@ use Rattle.ck_base.specs.declared.scope.Scope.{Scope}
 use Rattle.ck_base.specs.declared.scope.Scope.TheVariants.{Private, Shared}
 use Rattle.record_model.specs.declared.subscription.Subscription.{Subscription}
 use Rattle.zone_model.specs.declared.commits.Act.{Act}
-use Rattle.zone_model.specs.declared.commits.Act.TheVariants.{Writes, MakeZone, DropZone, SetSubscription, DropSubscription}
+use Rattle.zone_model.specs.declared.commits.Act.TheVariants.{SetSubscription, DropSubscription}
 use Rattle.zone_model.specs.declared.commits.Commit.{Commit}
 use Rattle.zone_model.specs.Names.{same}
 use Rattle.zone_model.specs.Zones.{commits_at}
@@ -32,11 +31,9 @@ abbrev pub with_subscription : List Subscription → Subscription → List Subsc
 with_subscription subs s = filter (λ t. stands_before t s) subs ++ s ∷ filter (λ t. stands_before s t) subs
 
 abbrev pub subscriptions_after : List Subscription → Act → List Subscription
-subscriptions_after subs (Writes ws) = subs
-subscriptions_after subs MakeZone = subs
-subscriptions_after subs DropZone = subs
 subscriptions_after subs (SetSubscription s) = with_subscription subs s
 subscriptions_after subs (DropSubscription scope id) = filter (λ s. not (is_subscription scope id s)) subs
+subscriptions_after subs _ = subs
 
 -- for each scope and name the one that the commits of the key set last and did not drop since, in ascending order
 abbrev pub subscriptions_at : List Commit → ZoneKey → List Subscription
@@ -45,6 +42,3 @@ subscriptions_at log key = fold (λ subs (c : Commit). subscriptions_after subs 
 -- those of a user in a scope, which the key of the user's default zone has
 abbrev pub subscriptions_of : List Commit → List ℕ → Scope → List Subscription
 subscriptions_of log user scope = filter (λ (s : Subscription). scope_place scope == scope_place s.scope) (subscriptions_at log (own_default user))
-
-abbrev pub has_subscription : List Subscription → Scope → List ℕ → Bool
-has_subscription subs scope id = list_any (is_subscription scope id) subs

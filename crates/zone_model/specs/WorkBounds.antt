@@ -5,7 +5,7 @@ use Rattle.share_records.specs.declared.participant.Participant.{Participant}
 use Rattle.share_records.specs.declared.share.Share.{Share as ShareOf}
 use Rattle.record_model.specs.declared.records.Record.{Record}
 use Rattle.zone_model.specs.declared.commits.Act.{Act}
-use Rattle.zone_model.specs.declared.commits.Act.TheVariants.{Writes, MakeZone, DropZone, SetSubscription, DropSubscription}
+use Rattle.zone_model.specs.declared.commits.Act.TheVariants.{Writes, DropZone}
 use Rattle.zone_model.specs.declared.commits.Commit.{Commit}
 use Rattle.zone_model.specs.Names.{is_in, distinct}
 use Rattle.zone_model.specs.Records.{names_in}
@@ -16,10 +16,8 @@ use Rattle.zone_model.specs.Coverage.{shares_in}
 -- the names that a commit writes; the removal of a zone writes each of its names
 abbrev pub names_written : Zone → Act → List (List ℕ)
 names_written z (Writes ws) = map written_name ws
-names_written z MakeZone = []
 names_written z DropZone = names_in z.rows
-names_written z (SetSubscription s) = []
-names_written z (DropSubscription scope id) = []
+names_written z _ = []
 
 -- the roots of the shares with these names
 abbrev pub roots_of : List (List ℕ) → List Record → List (List ℕ)

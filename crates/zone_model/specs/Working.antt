@@ -7,7 +7,7 @@ use Rattle.share_records.specs.declared.share.Share.{Share as ShareOf}
 use Rattle.record_model.specs.declared.records.Record.{Record}
 use Rattle.zone_model.specs.declared.operations.Op.{Op}
 use Rattle.zone_model.specs.Names.{same, is_in, is_private}
-use Rattle.name_rules.specs.Options.{is_some_and, or_else}
+use Rattle.name_rules.specs.Options.{is_some_and}
 use Rattle.zone_model.specs.Records.{is_there, with_record, share_of}
 use Rattle.zone_model.specs.Requests.{puts_in, names_deleted}
 use Rattle.zone_model.specs.Putting.{records_written}
@@ -16,25 +16,23 @@ use Rattle.zone_model.specs.Putting.{records_written}
 abbrev pub is_share_of : List ℕ → Record → Bool
 is_share_of root r = is_some_and (λ (s : ShareOf). same root s.root) (share_of r)
 
--- the name of the first such record
-abbrev pub name_of_first : (Record → Bool) → List Record → Option (List ℕ)
-name_of_first test rows = option_map_or (λ (r : Record). Some r.name) (find test rows) None
+-- the record is a share of that root which the view doesn't have
+abbrev pub is_new_share_of : List Record → List ℕ → Record → Bool
+is_new_share_of seen root s = is_share_of root s && not (is_there seen s.name)
 
 -- the view's records with those that the puts write
 abbrev pub with_puts : List Record → List Op → List (List ℕ) → List Record
 with_puts seen ops guids = fold with_record seen (records_written seen (puts_in ops guids))
 
--- the new share of a root
-abbrev pub new_share_of : List Record → List Record → List ℕ → Option (List ℕ)
-new_share_of seen rows root = name_of_first (λ (s : Record). is_share_of root s && not (is_there seen s.name)) rows
-
 -- a deletion of the owner names the root's share
 abbrev pub loses_mark : Scope → List Record → List Op → List ℕ → Bool
 loses_mark scope seen ops root = is_private scope && list_any (λ (s : Record). is_share_of root s && is_in (names_deleted ops) s.name) seen
 
--- the root of a new share has it, and the root of a share that the owner deletes has none
+-- the share that a root names: its new one; none where the owner deletes its share; or else the one that it named
 abbrev pub mark_of : Scope → List Record → List Op → List Record → Record → Option (List ℕ)
-mark_of scope seen ops rows r = or_else (new_share_of seen rows r.name) (if loses_mark scope seen ops r.name then None else r.share)
+mark_of scope seen ops rows r =
+    option_map_or (λ (s : Record). Some s.name) (find (is_new_share_of seen r.name) rows)
+    (if loses_mark scope seen ops r.name then None else r.share)
 
 abbrev pub with_marks : Scope → List Record → List Op → List Record → List Record
 with_marks scope seen ops rows = map (λ (r : Record). record r { share = mark_of scope seen ops rows r }) rows

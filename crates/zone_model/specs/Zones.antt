@@ -6,7 +6,7 @@ use Rattle.record_model.specs.declared.records.Record.{Record}
 use Rattle.zone_model.specs.declared.commits.Write.{Write}
 use Rattle.zone_model.specs.declared.commits.Write.TheVariants.{Put, Remove, PutRemove}
 use Rattle.zone_model.specs.declared.commits.Act.{Act}
-use Rattle.zone_model.specs.declared.commits.Act.TheVariants.{Writes, MakeZone, DropZone, SetSubscription, DropSubscription}
+use Rattle.zone_model.specs.declared.commits.Act.TheVariants.{Writes, MakeZone, DropZone}
 use Rattle.zone_model.specs.declared.commits.Commit.{Commit}
 use Rattle.zone_model.specs.Names.{same, same_key, is_default}
 use Rattle.zone_model.specs.Records.{with_record, without}
@@ -33,8 +33,7 @@ abbrev pub after_act : Zone → Act → Zone
 after_act z (Writes ws) = record { there = z.there; rows = fold after_write z.rows ws }
 after_act z MakeZone = record { there = true; rows = z.rows }
 after_act z DropZone = record { there = false; rows = [] }
-after_act z (SetSubscription s) = z
-after_act z (DropSubscription scope id) = z
+after_act z _ = z
 
 abbrev pub zone_at : List Commit → ZoneKey → Zone
 zone_at log key = fold (λ z (c : Commit). after_act z c.act) (first_zone key) (commits_at log key)
@@ -54,10 +53,7 @@ puts_name x (PutRemove y) = same x y
 
 abbrev pub act_puts : List ℕ → Act → Bool
 act_puts x (Writes ws) = list_any (puts_name x) ws
-act_puts x MakeZone = false
-act_puts x DropZone = false
-act_puts x (SetSubscription s) = false
-act_puts x (DropSubscription scope id) = false
+act_puts x _ = false
 
 -- how many commits have put the name in the zone, in all its lives and in all lives of the zone
 abbrev pub puts_at : List Commit → ZoneKey → List ℕ → ℕ

@@ -13,5 +13,15 @@ pub struct Origin {
 #[derive(Debug, Drop)]
 pub enum Event {
     /// These commits were made, at once.
-    Made { origin: Origin, commits: Commits },
+    Made {
+        origin: Origin,
+        commits: Commits,
+    },
+    /// A store failed to take what was to be committed, so nothing was. Its count of faults rose from
+    /// `before` to `after`.
+    StoreFailed {
+        origin: Origin,
+        before: u64,
+        after: u64,
+    },
 }

@@ -13,7 +13,7 @@ use Rattle.zone_model.specs.declared.outcomes.Outcome.TheVariants.{Put as PutTol
 use Rattle.zone_model.specs.declared.commits.Act.TheVariants.{Writes}
 use Rattle.zone_model.specs.declared.commits.Write.TheVariants.{Put, Remove}
 use Rattle.zone_model.specs.declared.events.Event.{Event}
-use Rattle.zone_model.specs.declared.events.Event.TheVariants.{Made}
+use Rattle.zone_model.specs.declared.events.Event.TheVariants.{Made, StoreFailed}
 use Rattle.zone_model.specs.Views.{nowhere}
 use Rattle.zone_model.specs.Legal.{is_legal}
 use Rattle.uuid.specs.Text.{by_index}
@@ -21,9 +21,10 @@ use Rattle.drawn_names.specs.Drawing.{name_of_word, guid_of_word}
 use Rattle.board_model.specs.declared.parts.Part.{Part}
 use Rattle.board_model.specs.declared.parts.Part.TheVariants.{Modify, Lookup}
 use Rattle.board_model.specs.declared.answers.Answer.{Answer}
-use Rattle.board_model.specs.declared.answers.Answer.TheVariants.{Modify as ModifyAnswer, Lookup as LookupAnswer, NoZone}
+use Rattle.board_model.specs.declared.answers.Answer.TheVariants.{Modify as ModifyAnswer, Lookup as LookupAnswer, NoZone, StoreFailed as NotStored}
 use Rattle.board_model.specs.Sights.{modifying, viewing}
-use Rattle.board_model.specs.Asks.{sight, answer, commits_by, makes, made as makes_at}
+use Rattle.board_model.specs.Asks.{stored, failed, sight, answer, commits_by, makes, made as made_at, told}
+use Rattle.zone_model.specs.Events.{log_of}
 use Rattle.zone_rows.proofs.RowWords.{ann, bob, notes, typed, op_of, share_draft, create, update, act, act_at, made, link}
 use Rattle.zone_rows.proofs.RowRecords.{a, k, m, r, s, row, marked, member, share_row}
 
@@ -47,6 +48,10 @@ modify u scope key atomic ops = Modify u scope key atomic ops 1000 []
 
 abbrev lookup : List ℕ → Scope → ZoneKey → Part
 lookup u scope key = Lookup u scope key (a ∷ m ∷ [])
+
+-- what a part makes where it is stored
+abbrev makes_at : ℕ → ℕ → List Event → Part → List Event
+makes_at lock seat events part = made_at stored lock seat events part
 
 -- the answer to a part, by what it is given to see
 abbrev answer_at : List Event → Part → Answer
@@ -275,3 +280,82 @@ sharing = Modify ann Private notes true (op_of (record (share_draft s a (Some (c
 pub the_link_is_drawn : answer_at there sharing ≡ ModifyAnswer (PutTold (share_row (codes "00000000-0000-4000-8000-000000000002") a Nothing []) ∷ [])
 unfolding digits by_index
 the_link_is_drawn = refl
+
+-- ---- a store that fails
+
+-- where its count of faults went from 3 to 4
+abbrev failing : List Event → Part → List Event
+failing events part = made_at (failed 3 4) 0 0 events part
+
+pub the_fault_is_an_event : failing there make_k ≡ StoreFailed (record { seat = 0; count = 3 }) 3 4 ∷ []
+unfolding digits
+the_fault_is_an_event = refl
+
+pub the_fault_is_anothers_first : made_at (failed 0 1) 0 7 there make_k ≡ StoreFailed (record { seat = 7; count = 1 }) 0 1 ∷ []
+unfolding digits
+the_fault_is_anothers_first = refl
+
+pub the_fault_is_told : told (failing there make_k) (answer_at there make_k) ≡ NotStored
+unfolding digits
+the_fault_is_told = refl
+
+pub what_is_stored_is_told : told (makes_at 0 0 there make_k) (answer_at there make_k) ≡ answer_at there make_k
+unfolding digits
+what_is_stored_is_told = refl
+
+pub it_is_legal_too : is_legal 6 (there ++ failing there make_k) ≡ true
+unfolding digits
+it_is_legal_too = refl
+
+pub nothing_was_put : log_of (there ++ failing there make_k) ≡ log_of there
+unfolding digits
+nothing_was_put = refl
+
+-- several commits fail as one
+pub two_fail_as_one : failing there (modify ann Private notes false (create k ∷ create m ∷ [])) ≡ StoreFailed (record { seat = 0; count = 3 }) 3 4 ∷ []
+unfolding digits
+two_fail_as_one = refl
+
+-- where nothing is made nothing is stored, so nothing fails
+pub a_refusal_does_not_fail : failing there (one_stale true) ≡ []
+unfolding digits
+a_refusal_does_not_fail = refl
+
+pub it_is_told_as_it_is : told (failing there (one_stale true)) (answer_at there (one_stale true)) ≡ answer_at there (one_stale true)
+unfolding digits
+it_is_told_as_it_is = refl
+
+pub a_lookup_does_not_fail : told (failing there (lookup ann Private notes)) (answer_at there (lookup ann Private notes)) ≡ LookupAnswer (Some (row a 1 None) ∷ None ∷ [])
+a_lookup_does_not_fail = refl
+
+pub no_zone_does_not_fail : told (failing there make_elsewhere) (answer_at there make_elsewhere) ≡ NoZone
+unfolding digits
+no_zone_does_not_fail = refl
+
+-- A record is made, its change fails, and the same change is done when it comes again: the events are Made, StoreFailed, Made.
+abbrev change_a : Part
+change_a = modify ann Private notes true (update a 1 ∷ [])
+
+abbrev then_failed : List Event
+then_failed = there ++ made_at (failed 0 1) 0 0 there change_a
+
+pub the_change_fails : told (made_at (failed 0 1) 0 0 there change_a) (answer_at there change_a) ≡ NotStored
+unfolding digits
+the_change_fails = refl
+
+pub the_change_is_done_again : answer_at then_failed change_a ≡ ModifyAnswer (PutTold (row a 2 None) ∷ [])
+unfolding digits
+the_change_is_done_again = refl
+
+pub it_has_the_next_count : makes_at 0 0 then_failed change_a ≡ Made (record { seat = 0; count = 4 }) (act (Writes (Put (row a 2 None) ∷ [])) ∷ []) ∷ []
+unfolding digits
+it_has_the_next_count = refl
+
+pub all_are_legal : is_legal 6 (then_failed ++ makes_at 0 0 then_failed change_a) ≡ true
+unfolding digits
+all_are_legal = refl
+
+-- the sight of the next ask is as if nothing had been asked
+pub a_fault_is_not_seen : sight 0 then_failed make_k ≡ sight 0 there make_k
+unfolding digits
+a_fault_is_not_seen = refl

@@ -27,7 +27,7 @@ use Rattle.zone_model.specs.References.{references_in, level_references}
 use Rattle.zone_model.specs.Requests.{Caller}
 use Rattle.zone_model.specs.Views.{view_of}
 use Rattle.zone_model.specs.Grounds.{Grounds, names_taken}
-use Rattle.zone_model.specs.Judging.{faults_from, together, has_fault}
+use Rattle.zone_model.specs.Judging.{faults_of, together, has_fault}
 use Rattle.zone_model.specs.Putting.{no_stamp}
 use Rattle.zone_model.specs.Cascade.{due, removed_names}
 use Rattle.zone_model.specs.Effect.{Request, after_puts, effect, commits_with, writes}
@@ -149,7 +149,7 @@ bound_is_made = ap (λ faults. made ++ (if has_fault faults then [] else effect 
 abbrev delete_a : List Op
 delete_a = delete a 1 ∷ []
 
-bound_faults : (v : Value) → references_in v ≡ to DeleteSelf a ∷ [] → faults_from (grounds (bound_rows v) (a ∷ [])) [] delete_a ≡ None ∷ []
+bound_faults : (v : Value) → references_in v ≡ to DeleteSelf a ∷ [] → faults_of (grounds (bound_rows v) (a ∷ [])) delete_a ≡ None ∷ []
 unfolding digits
 bound_faults v is = rw is refl
 
@@ -203,7 +203,7 @@ loose_is_made = ap (λ faults. made ++ (if has_fault faults then [] else effect 
 abbrev update_and_delete : List Op
 update_and_delete = update c 1 ∷ delete a 1 ∷ []
 
-loose_faults : (v : Value) → references_in v ≡ to DeleteSelf a ∷ [] → faults_from (grounds (loose_rows v) (a ∷ [])) [] update_and_delete ≡ None ∷ None ∷ []
+loose_faults : (v : Value) → references_in v ≡ to DeleteSelf a ∷ [] → faults_of (grounds (loose_rows v) (a ∷ [])) update_and_delete ≡ None ∷ None ∷ []
 unfolding digits
 loose_faults v is = rw is refl
 
@@ -272,11 +272,11 @@ target_is_missing =
     let ops = create_bound e Absent Validate d ∷ [] in
     ap (λ faults. map told_of (map (outcome_of (asked by_ann made ops)) (zip ops faults))) target_judged
 
-one_faults : (v : Value) → references_in v ≡ to Validate d ∷ [] → faults_from (grounds (wanting_rows v) (d ∷ [])) [] (delete d 1 ∷ []) ≡ Some Validating ∷ []
+one_faults : (v : Value) → references_in v ≡ to Validate d ∷ [] → faults_of (grounds (wanting_rows v) (d ∷ [])) (delete d 1 ∷ []) ≡ Some Validating ∷ []
 unfolding digits
 one_faults v is = rw is refl
 
-two_faults : (v : Value) → references_in v ≡ to Validate d ∷ [] → faults_from (grounds (wanting_rows v) (d ∷ e ∷ [])) [] (delete d 1 ∷ delete e 1 ∷ []) ≡ None ∷ None ∷ []
+two_faults : (v : Value) → references_in v ≡ to Validate d ∷ [] → faults_of (grounds (wanting_rows v) (d ∷ e ∷ [])) (delete d 1 ∷ delete e 1 ∷ []) ≡ None ∷ None ∷ []
 unfolding digits
 two_faults v is = rw is refl
 

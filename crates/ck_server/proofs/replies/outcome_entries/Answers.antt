@@ -1,18 +1,16 @@
-use Rattle.std.proofs.Common.{rules}
-use Rattle.std.proofs.lemmas.List.{length_push}
-use Rattle.std.proofs.lemmas.Slice.Zip.{zip_turn, zip_end}
+use Rattle.std.proofs.Common.{map}
+use Rattle.std.specs.List.{zip}
 use Rattle.talk_model.specs.Calls.{entry_of}
-use Rattle.ck_server.proofs.ReplyLemmas.{next_entry, all_entries}
+use Rattle.ck_server.proofs.ReplyLemmas.{next_entry, past_names, past_items}
 use Rattle.ck_server.proofs.replies.outcome_entries.Goals as goal
 
 pub loop-name-preserved : goal.loop-name-preserved
 loop-name-preserved c =
-    let turn = zip_turn c.args.names.now c.args.outcomes.now c.loop-name.yielded c.into_iter-name-iterator.result c.loop-name.name-iterator c.next.new.self c.next.result (search rules) (search rules) c.loop-name.yielded_by (c.in-Some.name, c.in-Some.outcome) c.in-Some.is c.next.ensures.steps in
-    rw length_push
-    (next_entry entry_of c.args.names.now c.args.outcomes.now c.loop-name.entries.items _ c.loop-name.invariant c.push.new.self.items c.in-Some.name.now c.in-Some.outcome.now c.in_ok-outcome_entry.field-0 (search rules) turn.0 turn.1 (turn.2 c.in-Some.name.now) (turn.3 c.in-Some.outcome.now) c.in_ok-outcome_entry.ensures)
+    next_entry entry_of c.args.names.now (map entry_of (zip c.args.names.now c.args.outcomes)) c.loop-name.entries c.loop-name.name-index c.loop-name.rest c.loop-name.invariant
+    c.push.new.self c.name-item.result c.in-Some.outcome c.pop.new.self c.in_ok-outcome_entry.field-0 c.loop-name-test.true c.name-item.is c.in-Some.ensures c.in_ok-outcome_entry.ensures c.in_ok-push.ensures.ok
 
 pub returns : goal.returns
-returns c =
-    let at_end = zip_end c.args.names.now c.args.outcomes.now c.loop-name.yielded c.into_iter-name-iterator.result c.loop-name.name-iterator c.next.new.self c.next.result (search rules) (search rules) c.loop-name.yielded_by c.in-None.is c.next.ensures.steps in
-    let all = all_entries entry_of c.args.names.now c.args.outcomes.now c.loop-name.entries.items _ c.loop-name.invariant at_end in
-    search rules
+returns c = past_names entry_of c.args.names.now _ c.loop-name.entries c.loop-name.name-index c.loop-name.rest c.loop-name.invariant c.loop-name-test.false
+
+pub returns-in_default : goal.returns-in_default
+returns-in_default c = past_items entry_of c.args.names.now _ c.loop-name.entries c.loop-name.name-index c.loop-name.rest c.loop-name.invariant c.in_default.ensures.0

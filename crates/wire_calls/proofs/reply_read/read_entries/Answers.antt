@@ -1,9 +1,9 @@
-use Rattle.std.proofs.Common.{rules, ◌≡◌, ◌<◌, ◌+◌, ◌++◌, [], ◌∷◌, map, length, sym, subst, arith}
+use Rattle.std.proofs.Common.{rules, ◌≡◌, ◌<◌, None, ◌+◌, ◌++◌, [], ◌∷◌, map, length, take, sym, subst, arith}
 use Rattle.serde_json.specs.View.{view}
 use Rattle.wire_calls.specs.Entries.{IsAnswer}
 use Rattle.wire_calls.specs.RepliesTo.{AreAnswersOf}
-use Rattle.wire_calls.proofs.EntryLemmas.{some_is}
-use Rattle.wire_calls.proofs.ReplyLemmas.{next, one_more, later, all_read}
+use Rattle.wire_calls.proofs.EntryLemmas.{some_is, none_is}
+use Rattle.wire_calls.proofs.ReplyLemmas.{one_more, wrong_here, all_read}
 use Rattle.wire_calls.proofs.reply_read.read_entries.Goals as goal
 
 pub loop-place-preserved : goal.loop-place-preserved
@@ -18,16 +18,28 @@ loop-place-preserved c =
     let e = c.in-Some.entry in
     let within : i < length items = search rules in
     let within_wants : i < length wants = omega (arith, within, c.loop-place.invariant.count) in
-    let next_asked = next wants i a within_wants c.index-asked-place.is in
-    let next_item = next items i v within c.index-items-place.is in
     let is = some_is (IsAnswer owner as_text a (view v)) c.in_ok-entry.entry e c.in_ok-entry.ensures c.in-Some.is in
     let pushed : c.push.new.self.items ≡ c.loop-place.entries.items ++ e ∷ [] = search rules in
     record {
       count = c.loop-place.invariant.count;
-      so_far = λ rest are. subst (λ es. AreAnswersOf owner as_text wants (map view items) (es ++ rest)) (sym pushed)
-          (one_more owner as_text wants items c.loop-place.entries.items i a v next_asked next_item e is c.loop-place.invariant.so_far rest are);
-      wrong = later owner as_text wants items c.loop-place.entries.items i a v next_asked next_item e (i + 1) (i + 1 + 1) (omega arith) is c.loop-place.invariant.wrong;
+      so_far = subst (AreAnswersOf owner as_text (take (i + 1) wants) (map view (take (i + 1) items))) (sym pushed)
+          (one_more owner as_text wants items c.loop-place.entries.items i a v within_wants within c.index-asked-place.is c.index-items-place.is c.loop-place.invariant.so_far e is);
     }
+
+pub returns-in-None : goal.returns-in-None
+returns-in-None c =
+    let owner = c.args.here.now.owner in
+    let as_text = c.args.numbers_as_strings in
+    let wants = c.args.asked.now in
+    let items = c.args.items.now in
+    let i = c.loop-place.place in
+    let a = c.index-asked-place.result in
+    let v = c.index-items-place.result in
+    let within : i < length items = search rules in
+    let within_wants : i < length wants = omega (arith, within, c.loop-place.invariant.count) in
+    let absent : c.in_ok-entry.entry ≡ None = search rules in
+    let none = none_is (IsAnswer owner as_text a (view v)) c.in_ok-entry.entry c.in_ok-entry.ensures absent in
+    wrong_here owner as_text wants items c.loop-place.entries.items i a v within_wants within c.index-asked-place.is c.index-items-place.is c.loop-place.invariant.so_far none
 
 pub returns : goal.returns
 returns c =

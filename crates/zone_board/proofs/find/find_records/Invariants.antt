@@ -1,6 +1,6 @@
 use Rattle.std.proofs.Common.{◌≡◌, ◌++◌, drop, map}
 use Rattle.zone_model.specs.Events.{log_of}
-use Rattle.zone_model.specs.OnePuts.{last_put}
+use Rattle.plain_creates.specs.OnePuts.{last_put}
 use Rattle.zone_board.proofs.find.find_records.Given as goal
 
 abbrev pub invariant-loop-name : goal.invariant-loop-name

@@ -1,7 +1,7 @@
 use Rattle.std.proofs.Common.{◌≡◌, fold, drop}
 use Rattle.std.specs.Prelude.{option_map}
 use Rattle.zone_model.specs.Options.{or_else}
-use Rattle.zone_model.specs.OnePuts.{put_by}
+use Rattle.plain_creates.specs.OnePuts.{put_by}
 use Rattle.zone_board.proofs.find.last_after.Given as goal
 
 abbrev pub invariant-loop-commit : goal.invariant-loop-commit

@@ -2,7 +2,7 @@ use Rattle.std.proofs.Common.{◌≡◌, fold, drop}
 use Rattle.std.specs.Prelude.{option_map}
 use Rattle.zone_model.specs.Events.{log_of}
 use Rattle.zone_model.specs.Options.{or_else}
-use Rattle.zone_model.specs.OnePuts.{put_by, last_put}
+use Rattle.plain_creates.specs.OnePuts.{put_by, last_put}
 use Rattle.zone_board.proofs.find.last_put.Given as goal
 
 abbrev pub invariant-loop-event : goal.invariant-loop-event

@@ -9,5 +9,5 @@ overflow_add-pass g c =
 
 pub invariant_of-pass : goal.invariant_of-pass
 invariant_of-pass g c =
-    let sound = gave_sound _ _ _ _ _ _ _ _ _ _ c.pass.view_is c.pass.invariant c.requires.taken.1 c.requires.grown c.requires.taken.2 c.serve.ensures.served in
+    let sound = gave_sound _ _ _ _ _ _ _ _ _ _ _ _ c.pass.view_is c.pass.invariant c.requires.taken.1 c.requires.grown c.requires.taken.2 c.put_back.ensures.back c.serve.ensures.served in
     rw c.len.ensures sound

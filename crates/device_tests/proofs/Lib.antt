@@ -1,0 +1,2 @@
+-- a board behind the zone lock
+pub mod BoardLemmas
