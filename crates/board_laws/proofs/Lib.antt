@@ -6,3 +6,19 @@ pub mod CommitLaws
 pub mod SightLaws
 -- something is made where some outcome tells of something written
 pub mod MadeLaws
+-- operations with their drawn names are puts as requests give them
+pub mod DrawnLaws
+-- no root is given twice
+pub mod OnceLaws
+-- a zone that somebody sees is there
+pub mod ThereLaws
+-- the sights of operations one after another, where the zone is the same
+pub mod ZoneSightLaws
+-- what a participant sees behind puts
+pub mod ViewAfterLaws
+-- the sights of puts in the shared scope
+pub mod PutSightLaws
+-- and of puts one after another
+pub mod PutStepLaws
+-- an ask leaves the history of its lock legal
+pub mod LastingLaws

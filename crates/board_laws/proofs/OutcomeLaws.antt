@@ -54,19 +54,19 @@ past_in : (log : List Commit) (key : ZoneKey) (names : List (List ℕ)) (x : Lis
 past_in log key [] x i = absurd (both_ways false refl i)
 past_in log key (y ∷ names) x i = past_step (same x y) log key y x names (find (λ (p : Past). same x p.name) (map (past_of log key) names)) refl (past_in log key names x) i
 
-abbrev offered : List Op → List (List ℕ)
+abbrev pub offered : List Op → List (List ℕ)
 offered ops = map name_of_put (puts_in ops [])
 
-past_offered : (log : List Commit) (key : ZoneKey) (ops : List Op) (x : List ℕ) → is_in (offered ops) x ≡ true → find (λ (p : Past). same x p.name) (name_history log key ops) ≡ Some (past_of log key x)
+pub past_offered : (log : List Commit) (key : ZoneKey) (ops : List Op) (x : List ℕ) → is_in (offered ops) x ≡ true → find (λ (p : Past). same x p.name) (name_history log key ops) ≡ Some (past_of log key x)
 past_offered log key ops x i = past_in log key (distinct (offered ops)) x (in_distinct (offered ops) x i)
 
 -- ---- outcomes, by what is seen and at the log
 
-all_mapped : {X Y : Type 0} (f g : X → Y) (xs : List X) → AllByRecursion (λ x. f x ≡ g x) xs → map f xs ≡ map g xs
+pub all_mapped : {X Y : Type 0} (f g : X → Y) (xs : List X) → AllByRecursion (λ x. f x ≡ g x) xs → map f xs ≡ map g xs
 all_mapped f g [] all = refl
 all_mapped f g (x ∷ xs) all = λ i. all.0 i ∷ all_mapped f g xs all.1 i
 
-no_guids : (op : Op) (ops : List Op) → puts_in ops (guids_left op []) ≡ puts_in ops []
+pub no_guids : (op : Op) (ops : List Op) → puts_in ops (guids_left op []) ≡ puts_in ops []
 no_guids op ops = by (draws_guid op)
   where
     by : (b : Bool) → puts_in ops (if b then [] else []) ≡ puts_in ops []

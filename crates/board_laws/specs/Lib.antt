@@ -2,3 +2,5 @@
 pub mod Answered
 -- what a sight depends on, and what depends on it
 pub mod Sighted
+-- that an ask leaves the history of its lock legal
+pub mod Lasting

@@ -1,20 +1,24 @@
 -- What a sight depends on, and what depends on it.
-use Rattle.std.specs.Prelude.{◌≡◌, ℕ, Bool, true, false, List, ◌++◌}
+use Rattle.std.specs.Prelude.{◌≡◌, ℕ, Bool, true, false, not, ◌||◌, List, [], ◌∷◌, ◌++◌, map}
 use Rattle.std.specs.List.{AllByRecursion}
 use Rattle.ck_base.specs.declared.key.ZoneKey.{ZoneKey}
 use Rattle.ck_base.specs.declared.scope.Scope.{Scope}
 use Rattle.zone_model.specs.declared.commits.Commit.{Commit}
 use Rattle.zone_model.specs.declared.operations.Op.{Op}
 use Rattle.zone_model.specs.declared.events.Event.{Event}
-use Rattle.zone_model.specs.Names.{same_key}
+use Rattle.zone_model.specs.Names.{same_key, is_private}
+use Rattle.zone_model.specs.Zones.{zone_at}
 use Rattle.zone_model.specs.Views.{view_of}
 use Rattle.zone_model.specs.Past.{name_history}
-use Rattle.zone_model.specs.Modifying.{is_judged_as_one}
+use Rattle.zone_model.specs.Requests.{is_deletion}
+use Rattle.zone_model.specs.Modifying.{is_judged_as_one, Step, steps}
+use Rattle.zone_model.specs.Lawful.{are_lawful}
 use Rattle.zone_model.specs.Events.{log_of}
 use Rattle.drawn_names.specs.Drawing.{named_ops}
 use Rattle.board_model.specs.declared.parts.Part.{Part}
 use Rattle.board_model.specs.declared.parts.Part.TheVariants.{Modify, Lookup}
-use Rattle.board_model.specs.Asks.{sight}
+use Rattle.board_model.specs.Sights.{OpSight, modifying, viewing}
+use Rattle.board_model.specs.Asks.{caller_in, guids_at, sight}
 use Rattle.board_laws.specs.Answered.{answer_at}
 
 abbrev pub key_of : Part → ZoneKey
@@ -24,14 +28,55 @@ key_of (Lookup user scope key names) = key
 abbrev pub IsOfOther : ZoneKey → Commit → Type 0
 IsOfOther key c = same_key key c.key ≡ false
 
--- Equal sights give equal answers. Events of other zones change no sight. Where the user's view is the same, so is the sight of a lookup, and, with
--- the history of the offered names, that of operations that are judged as one.
+-- an operation that others follow deletes
+abbrev pub deletes_before : List Op → Bool
+deletes_before [] = false
+deletes_before (op ∷ []) = false
+deletes_before (op ∷ next ∷ ops) = is_deletion op.kind || deletes_before (next ∷ ops)
+
+-- what the user sees at a log, and the past of the names that operations offer there
+abbrev pub seen_at : List ℕ → Scope → ZoneKey → List Commit → List Op → OpSight
+seen_at user scope key log ops = record { view = view_of log user scope key; pasts = name_history log key ops }
+
+-- A sight is what the user sees at the history: for operations, with the past of the names that they offer; and where they are done one after another
+-- in a zone that the user sees, that before each of them too. There is nothing else in it.
+pub record SightsAreTold : Type 0 where
+  pub lookup : (lock : ℕ) (events : List Event) (user : List ℕ) (scope : Scope) (key : ZoneKey) (names : List (List ℕ))
+      → sight lock events (Lookup user scope key names) ≡ viewing (view_of (log_of events) user scope key)
+  pub as_one : (lock : ℕ) (events : List Event) (user : List ℕ) (scope : Scope) (key : ZoneKey) (atomic : Bool) (ops : List Op) (moment : ℕ) (words : List (List ℕ))
+      → is_judged_as_one key atomic ≡ true
+      → sight lock events (Modify user scope key atomic ops moment words) ≡ modifying (seen_at user scope key (log_of events) (named_ops ops words)) []
+  pub unseen : (lock : ℕ) (events : List Event) (user : List ℕ) (scope : Scope) (key : ZoneKey) (atomic : Bool) (ops : List Op) (moment : ℕ) (words : List (List ℕ))
+      → (view_of (log_of events) user scope key).here ≡ false
+      → sight lock events (Modify user scope key atomic ops moment words) ≡ modifying (seen_at user scope key (log_of events) (named_ops ops words)) []
+  pub apart : (lock : ℕ) (events : List Event) (user : List ℕ) (scope : Scope) (key : ZoneKey) (atomic : Bool) (ops : List Op) (moment : ℕ) (words : List (List ℕ))
+      → is_judged_as_one key atomic ≡ false → (view_of (log_of events) user scope key).here ≡ true
+      → sight lock events (Modify user scope key atomic ops moment words)
+      ≡ modifying (seen_at user scope key (log_of events) (named_ops ops words))
+      (map (λ (s : Step). seen_at user scope key s.log (s.op ∷ [])) (steps (caller_in user scope key) moment (log_of events) (named_ops ops words) (guids_at key ops words)))
+
+-- two histories show the same for a part: the user's view, and the past of the names that its operations offer
+abbrev pub ShowTheSame : Part → List Event → List Event → Type 0
+ShowTheSame (Modify user scope key atomic ops moment words) old new = seen_at user scope key (log_of old) (named_ops ops words) ≡ seen_at user scope key (log_of new) (named_ops ops words)
+ShowTheSame (Lookup user scope key names) old new = view_of (log_of old) user scope key ≡ view_of (log_of new) user scope key
+
+-- a lookup, or operations that are judged as one
+abbrev pub is_told_at_once : Part → Bool
+is_told_at_once (Modify user scope key atomic ops moment words) = is_judged_as_one key atomic
+is_told_at_once (Lookup user scope key names) = true
+
+-- the part is in the private scope, or none of its operations that others follow deletes
+abbrev pub rests_on_seen : Part → Bool
+rests_on_seen (Modify user scope key atomic ops moment words) = is_private scope || not (deletes_before ops)
+rests_on_seen (Lookup user scope key names) = true
+
+-- Equal sights give equal answers. Events of other zones change no sight. Where the histories show the same for a part that is told at once, so do
+-- sights of it; and, at lawful logs, of any part where the whole zone is the same, and else of one that rests on what is seen.
 pub record SightsDecide : Type 0 where
   pub answers : (lock : ℕ) (old new : List Event) (part : Part) → sight lock old part ≡ sight lock new part → answer_at lock old part ≡ answer_at lock new part
   pub others : (lock : ℕ) (old more : List Event) (part : Part) → AllByRecursion (IsOfOther (key_of part)) (log_of more) → sight lock (old ++ more) part ≡ sight lock old part
-  pub lookup : (lock : ℕ) (old new : List Event) (user : List ℕ) (scope : Scope) (key : ZoneKey) (names : List (List ℕ)) → view_of (log_of old) user scope key ≡ view_of (log_of new) user scope key
-      → sight lock old (Lookup user scope key names) ≡ sight lock new (Lookup user scope key names)
-  pub as_one : (lock : ℕ) (old new : List Event) (user : List ℕ) (scope : Scope) (key : ZoneKey) (atomic : Bool) (ops : List Op) (moment : ℕ) (words : List (List ℕ))
-      → is_judged_as_one key atomic ≡ true
-      → view_of (log_of old) user scope key ≡ view_of (log_of new) user scope key → name_history (log_of old) key (named_ops ops words) ≡ name_history (log_of new) key (named_ops ops words)
-      → sight lock old (Modify user scope key atomic ops moment words) ≡ sight lock new (Modify user scope key atomic ops moment words)
+  pub at_once : (lock : ℕ) (old new : List Event) (part : Part) → is_told_at_once part ≡ true → ShowTheSame part old new → sight lock old part ≡ sight lock new part
+  pub in_zone : (lock : ℕ) (old new : List Event) (part : Part) → are_lawful [] (log_of old) ≡ true → are_lawful [] (log_of new) ≡ true
+      → zone_at (log_of old) (key_of part) ≡ zone_at (log_of new) (key_of part) → ShowTheSame part old new → sight lock old part ≡ sight lock new part
+  pub by_seen : (lock : ℕ) (old new : List Event) (part : Part) → are_lawful [] (log_of old) ≡ true → are_lawful [] (log_of new) ≡ true
+      → rests_on_seen part ≡ true → ShowTheSame part old new → sight lock old part ≡ sight lock new part

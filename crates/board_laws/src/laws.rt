@@ -1,6 +1,7 @@
 // What holds of asks. The functions do nothing: their clauses are the laws.
 ghost use Rattle.board_laws.specs.Answered.{AnswersAreTold, CommitsAreMade, FailuresAreTold, MadeWhereTold};
-ghost use Rattle.board_laws.specs.Sighted.{SightsDecide};
+ghost use Rattle.board_laws.specs.Sighted.{SightsAreTold, SightsDecide};
+ghost use Rattle.board_laws.specs.Lasting.{AsksStayLegal};
 
 /// A modify is answered with the outcomes of its operations, a lookup with records of the user's
 /// view, and just where the user sees no such zone it is told so.
@@ -19,7 +20,13 @@ pub fn failures_are_told()
     ensures { FailuresAreTold }
 {}
 
-/// Equal sights give equal answers, and what changes nothing for the user changes no sight.
+/// A sight is what the user sees, with the past of the offered names, and nothing else.
+pub fn sights_are_told()
+    ensures { SightsAreTold }
+{}
+
+/// Equal sights give equal answers, and histories that show a user the same give equal sights, but where
+/// in the shared scope operations follow a deletion one after another.
 pub fn sights_decide()
     ensures { SightsDecide }
 {}
@@ -27,4 +34,9 @@ pub fn sights_decide()
 /// A modify makes something just where some outcome tells of something written.
 pub fn made_where_told()
     ensures { MadeWhereTold }
+{}
+
+/// What an ask makes leaves a legal history legal: commits, and faults of the store.
+pub fn asks_stay_legal()
+    ensures { AsksStayLegal }
 {}

@@ -1,5 +1,5 @@
 -- A conversation on a board of its own serves its requests.
-use Rattle.std.proofs.Common.{◌≡◌, ℕ, List, [], ◌∷◌, ◌++◌, map, refl, sym, ap, subst, ◌∙◌, true, Option, Some, Result, Ok, Err}
+use Rattle.std.proofs.Common.{◌≡◌, ℕ, List, [], ◌∷◌, ◌++◌, map, refl, ap, subst, ◌∙◌, true, Some, Result}
 use Rattle.std.specs.List.{AllByRecursion}
 use Rattle.ck_devices.specs.declared.faults.Failed.{Failed}
 use Rattle.ck_devices.specs.Runs.{GivesInTurn}
@@ -11,12 +11,10 @@ use Rattle.zone_board.specs.Stripes.{solo}
 use Rattle.http_front.specs.Users.{Table}
 use Rattle.talk_model.specs.declared.ends.End.{End}
 use Rattle.talk_model.specs.declared.ends.TalkFaultKind.{TalkFaultKind}
-use Rattle.talk_model.specs.declared.ends.TalkFaultKind.TheVariants as fault
 use Rattle.talk_model.specs.declared.marks.Mark.{Mark}
-use Rattle.talk_model.specs.Given.{Given, givens_of, GaveFor}
+use Rattle.talk_model.specs.Given.{Given, given_of, GaveFor}
 use Rattle.ck_server.specs.Conversations.{Standing}
-use Rattle.ck_server.specs.Outcomes.{EndsWell, BreaksOff, ComesTo}
-use Rattle.ck_server.specs.Completeness.{Converses}
+use Rattle.ck_server.specs.Outcomes.{Converses}
 use Rattle.ck_command.specs.declared.endings.Ending.{Ending}
 use Rattle.ck_command.specs.Endings.{ending_by}
 use Rattle.ck_command.specs.Serving.{Streams, standing, opened, ServesFrom, GivenAre, IsUntouched}
@@ -39,50 +37,17 @@ served b empty none t gave before after last marks outcome ending k ends = recor
 
 -- ---- other words for what was given
 
-module _ (t : Table) (gave gave2 : List Given → Type 0) (entry now : Standing) (marks : List Mark) (f : (gs : List Given) → gave gs → gave2 gs) where
-  ends_given : (end : End) → EndsWell t gave entry now marks end → EndsWell t gave2 entry now marks end
-  ends_given end e =
-      record { rest = e.rest; conversed = e.conversed; settled = e.settled; reads = e.reads; source = e.source; ahead = e.ahead; given = f (givens_of marks) e.given }
-
-  breaks_given : (at : TalkFaultKind) → BreaksOff t gave entry now marks at → BreaksOff t gave2 entry now marks at
-  breaks_given fault.ReadFault b = record {
-    cause = b.cause;
-    rest = b.rest;
-    conversed = b.conversed;
-    settled = b.settled;
-    open_after = b.open_after;
-    unfinished = b.unfinished;
-    given = f (givens_of marks) b.given;
-  }
-  breaks_given fault.WriteFault b = record {
-    cause = b.cause;
-    rest = b.rest;
-    last = b.last;
-    unsent = b.unsent;
-    some = b.some;
-    conversed = b.conversed;
-    settled = b.settled;
-    ends = b.ends;
-    late = b.late;
-    given = f (givens_of marks) b.given;
-  }
-  breaks_given fault.NoMemory b = record {
-    rest = b.rest;
-    done = b.done;
-    begun = b.begun;
-    more = b.more;
-    marks_are = b.marks_are;
-    conversed = b.conversed;
-    in_hand = b.in_hand;
-    given = f (givens_of marks ++ b.more) b.given;
-  }
-
-  comes_given : (outcome : Result End TalkFaultKind) → ComesTo t gave entry now marks outcome → ComesTo t gave2 entry now marks outcome
-  comes_given (Ok end) k = ends_given end k
-  comes_given (Err at) k = breaks_given at k
-
-  converses_given : (outcome : Result End TalkFaultKind) → Converses t gave entry now marks outcome → Converses t gave2 entry now marks outcome
-  converses_given outcome k = record { comes_to = comes_given outcome k.comes_to; complete = k.complete }
+converses_given : (t : Table) (gave gave2 : List Given → Type 0) (entry now : Standing) (marks : List Mark) → ((gs : List Given) → gave gs → gave2 gs) → (outcome : Result End TalkFaultKind) → Converses t gave entry now marks outcome → Converses t gave2 entry now marks outcome
+converses_given t gave gave2 entry now marks f outcome k = record {
+  course = k.course;
+  marks_are = k.marks_are;
+  given = f (map given_of marks ++ (k.course).more) k.given;
+  conversed = k.conversed;
+  fits = k.fits;
+  complete = k.complete;
+  reads = k.reads;
+  writes = k.writes;
+}
 
 pub serves_given : (opening : Histories Event) (t : Table) (gave gave2 : List Given → Type 0) (before after : Streams) (ending : Ending) → ((gs : List Given) → gave gs → gave2 gs) → ServesFrom opening t gave before after ending → ServesFrom opening t gave2 before after ending
 serves_given opening t gave gave2 before after ending f s = record {

@@ -14,7 +14,7 @@ use Rattle.talk_model.specs.declared.ends.TalkFaultKind.{TalkFaultKind}
 use Rattle.talk_model.specs.declared.marks.Mark.{Mark}
 use Rattle.talk_model.specs.Given.{Given, draws_of, GaveFor}
 use Rattle.ck_server.specs.Conversations.{Standing}
-use Rattle.ck_server.specs.Completeness.{Converses}
+use Rattle.ck_server.specs.Outcomes.{Converses}
 use Rattle.ck_command.specs.declared.endings.Ending.{Ending}
 use Rattle.ck_command.specs.declared.endings.Ending.TheVariants.{WrongWords}
 use Rattle.ck_command.specs.Arguments.{RunArguments}
@@ -63,8 +63,13 @@ pub record ServesFrom (opening : Histories Event) (t : Table) (gave : List Given
   pub unfailed : (lock : ℕ) → board.faults lock ≡ 0
   pub ends : ending ≡ ending_by outcome
 
+-- the shelf has its files, and has not failed
+abbrev pub IsShelfKept : Devices → Devices → Type 0
+IsShelfKept before after = (after.files ≡ before.files) × (after.shelf_faults ≡ before.shelf_faults)
+
 -- they were served for the table of the file
 pub record ServesFile (opening : Histories Event) (gave : Option ℕ → List Given → Type 0) (before after : Devices) (asked : RunArguments) (ending : Ending) : Type 0 where
+  pub shelf : IsShelfKept before after
   pub table : Table
   pub table_is : IsTableIn before.files asked.users table
   pub serves : ServesFrom opening table (gave asked.moment) before.streams after.streams ending
@@ -74,13 +79,14 @@ pub record IsUntouched (gave : Option ℕ → List Given → Type 0) (before aft
   pub given : gave None []
   pub same : after ≡ before
 
--- no table of users was loaded
+-- no table of users was loaded, and the files stay
 pub record RefusesFile (gave : Option ℕ → List Given → Type 0) (before after : Devices) (asked : RunArguments) (ending : Ending) : Type 0 where
   pub untouched : IsUntouched gave before.streams after.streams
+  pub files : after.files ≡ before.files
   pub may : MayRefuse before.files asked.users (Rose before.shelf_faults after.shelf_faults) ending
 
 -- What a run does and how it ends: at wrong words nothing, of the shelf neither, and else it serves the requests once it has loaded the table of users.
 abbrev pub Runs : Histories Event → (Option ℕ → List Given → Type 0) → Devices → Devices → Option RunArguments → Ending → Type 0
 Runs opening gave before after None ending =
-    (ending ≡ WrongWords) × IsUntouched gave before.streams after.streams × (after.files ≡ before.files) × (after.shelf_faults ≡ before.shelf_faults)
+    (ending ≡ WrongWords) × IsUntouched gave before.streams after.streams × IsShelfKept before after
 Runs opening gave before after (Some asked) ending = RefusesFile gave before after asked ending ⊎ ServesFile opening gave before after asked ending

@@ -1,5 +1,5 @@
 //! One run of the server over the devices that it is handed.
-ghost use Rattle.std.specs.Prelude.{◌≡◌, ◌≤◌, ◌↔◌, [], None, IfOk, IfErr};
+ghost use Rattle.std.specs.Prelude.{◌≡◌, ◌≤◌, ◌↔◌, [], None, IfOk, OnOk, IfErr};
 ghost use Rattle.ck_devices.specs.Causes.{Rose};
 ghost use Rattle.talk_model.specs.Given.{Draws, GaveFor};
 ghost use Rattle.ck_command.specs.Arguments.{asked_of};
@@ -24,6 +24,8 @@ fn load_users<'a, F: Shelf>(
 ) -> Result<Users, Ending<'a>>
     ensures table { IfOk result (λ users. IsTableIn (F.files shelf.old) name.now users) }
     ensures refused { IfErr result (MayRefuse (F.files shelf.old) name.now (Rose (F.fault_count shelf.old) (F.fault_count shelf.new))) }
+    ensures kept { F.files shelf.new ≡ F.files shelf.old }
+    ensures counted { OnOk result (F.fault_count shelf.new ≡ F.fault_count shelf.old) }
 {
     let mut bytes = Vec::new(alloc);
     match shelf.read(name, &mut bytes) {
@@ -117,9 +119,9 @@ fn run<'a, F: Shelf, S: Source, W: Sink, C: Clock, R: Words>(
 }
 
 /// Answers the requests of the source to the sink, for the users of a file of the shelf, until the
-/// source ends. The words are those behind `run`: `USERS`, or `USERS --moment N`, where N stands
-/// for the clock. The answer is the status of the program, and `errors` takes the line that says
-/// why it is not 0.
+/// source ends, a request asks to close, 100,000 are answered, or the conversation ends otherwise. The
+/// words are those behind `run`: `USERS`, or `USERS --moment N`, where N stands for the clock. The
+/// answer is the status of the program, and `errors` takes the line that says why it is not 0.
 pub fn run_command<F: Shelf, S: Source, W: Sink, E: Sink, C: Clock, R: Words>(
     alloc: Global,
     args: &[Text],

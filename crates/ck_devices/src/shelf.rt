@@ -1,6 +1,6 @@
 // Files by name.
-ghost use Rattle.std.specs.Prelude.{◌≡◌, ◌≤◌, [], ℕ, ◌↔◌, Option, Some, option_map, IfOk, OnErr, IsErrOf, IsTrue};
-ghost use Rattle.ck_devices.specs.Causes.{Rose};
+ghost use Rattle.std.specs.Prelude.{◌≡◌, [], ℕ, ◌↔◌, Option, Some, option_map, IfOk, OnErr, IsErrOf, IsTrue};
+ghost use Rattle.ck_devices.specs.Causes.{HasCauseAt};
 ghost use Rattle.ck_devices.specs.Files.{Files, file, ReadsFile};
 ghost use Rattle.ck_devices.specs.Plans.{fresh, fails_next, counted};
 
@@ -58,8 +58,7 @@ pub trait Shelf {
         ensures bytes { IfOk result (λ found. ReadsFile (files self.old) name.now found into.new.items) }
         ensures refused { OnErr result (into.new.items ≡ []) }
         ensures kept { files self.new ≡ files self.old }
-        ensures later { fault_count self.old ≤ fault_count self.new }
-        ensures cause { IsErrOf result ShelfFault.Failed → Rose (fault_count self.old) (fault_count self.new) };
+        ensures cause { HasCauseAt ShelfFault.Failed (fault_count self.old) (fault_count self.new) result };
 }
 
 /// Files in memory.
@@ -103,8 +102,7 @@ impl Shelf for MemShelf {
         ensures bytes { IfOk result (λ found. ReadsFile (Some self.old.files) name.now found into.new.items) }
         ensures refused { OnErr result (into.new.items ≡ []) }
         ensures kept { Some self.new.files ≡ Some self.old.files }
-        ensures later { self.old.plan.faults ≤ self.new.plan.faults }
-        ensures cause { IsErrOf result ShelfFault.Failed → Rose self.old.plan.faults self.new.plan.faults }
+        ensures cause { HasCauseAt ShelfFault.Failed self.old.plan.faults self.new.plan.faults result }
 
         // What the trait leaves open.
         ensures listed { IsErrOf result ShelfFault.Failed ↔ IsTrue (fails_next self.old.plan) }

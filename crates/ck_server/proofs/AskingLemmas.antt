@@ -1,18 +1,16 @@
 -- What the asks of a request change, one after another.
-use Rattle.std.proofs.Common.{◌≡◌, ℕ, ◌≤◌, List, [], ◌∷◌, ◌++◌, length, refl, sym, ap, subst, ◌∙◌, arith, append_assoc, append-nil, inl, inr}
-use Rattle.std.specs.Prelude.{◌⊎◌}
+use Rattle.std.proofs.Common.{◌≡◌, ◌≢◌, ◌==◌, if◌then◌else◌, Bool, eq-eqb, ℕ, ◌≤◌, List, [], ◌∷◌, ◌++◌, length, refl, sym, ap, subst, ◌∙◌, arith, append_assoc, append-nil, inl, inr}
 use Rattle.std.specs.List.{AllByRecursion}
-use Rattle.zone_model.specs.declared.events.Event.{Event}
-use Rattle.zone_model.specs.Histories.{Histories}
+use Rattle.std.proofs.lemmas.List.Elements.{filter-append}
 use Rattle.board_model.specs.declared.answers.Answer.{Answer}
 use Rattle.board_model.specs.declared.answers.Answered.{Answered}
-use Rattle.board_model.specs.Turns.{BoardState, AreLegal, HadTurn, IsAsked}
+use Rattle.board_model.specs.Turns.{BoardState, AreLegal, IsSameAt, HadTurn, IsAsked}
 use Rattle.wire_calls.specs.declared.reply.Reply.{Reply}
 use Rattle.talk_model.specs.declared.marks.At.{At}
 use Rattle.talk_model.specs.Calls.{Ask, Step, asks, replies}
-use Rattle.talk_model.specs.Marks.{IsLater, answer_at, step_at, IsAtOf, AreAtsOf, NotBefore, AreInOrder, OwnAreMarked, TurnsAreMarked}
-use Rattle.talk_model.specs.Alone.{Storing, WentSo, answer_alone, after_ask, after_asks, after_step, reply_alone}
-use Rattle.talk_model.proofs.GrowthLemmas.{later_same, later_on, front-length, at-grown, answer-grown}
+use Rattle.talk_model.specs.Marks.{IsLater, answer_at, step_at, IsAtOf, AreAtsOf, NotBefore, AreInOrder, asks_at}
+use Rattle.talk_model.specs.Alone.{Storing, WentSo, answer_alone, after_ask, after_asks, run_step}
+use Rattle.talk_model.proofs.GrowthLemmas.{OwnAreMarked, TurnsAreMarked, later_same, later_on, front-length, at-grown, answer-grown}
 use Rattle.talk_model.proofs.MarkLemmas.{all-map, all-snoc, order-snoc}
 use Rattle.talk_model.proofs.AloneLemmas.{ask_leaves}
 use Rattle.talk_model.proofs.TurnLemmas.{turn_later, answer-asked, is_at, not_before, own_more, turns_more, lone_adds, lone_answers}
@@ -37,12 +35,47 @@ may_grow found now (asks ask next) (inl same) = same_grows found now same
 may_grow found now (asks ask next) (inr (inl seen)) = turn_grows found now ask.lock seen.turn
 may_grow found now (asks ask next) (inr (inr had)) = turn_grows found now ask.lock (had.turn)
 
+-- nothing of a lock changed, and then again nothing
+same_on : (entry b b2 : BoardState) (lock : ℕ) → IsSameAt entry b lock → IsSameAt b b2 lock → IsSameAt entry b2 lock
+same_on entry b b2 lock p q = record { history = q.history ∙ p.history; seat = q.seat ∙ p.seat; turn = q.turn ∙ p.turn; faults = q.faults ∙ p.faults }
+
+pub same_at : (b : BoardState) (lock : ℕ) → IsSameAt b b lock
+same_at b lock = record { history = refl; seat = refl; turn = refl; faults = refl }
+
+first_nil : (xs ys : List At) → xs ++ ys ≡ [] → xs ≡ []
+first_nil [] ys e = refl
+first_nil (x ∷ xs) ys e = absurd (cc)
+
+last_nil : (xs ys : List At) → xs ++ ys ≡ [] → ys ≡ []
+last_nil [] ys e = e
+last_nil (x ∷ xs) ys e = absurd (cc)
+
+some_nil : (x : At) → x ∷ [] ≡ [] → ⊥
+some_nil x e = cc
+
+-- a lock that was not asked is as it was
+abbrev pub UnaskedAreSame : BoardState → BoardState → List At → Type 0
+UnaskedAreSame entry b ats = (lock : ℕ) → asks_at lock ats ≡ [] → IsSameAt entry b lock
+
+unasked_on : (entry b b2 : BoardState) (a : Ask) (answered : Answered) (k : IsAsked b b2 a.lock a.part answered) (ats : List At) → UnaskedAreSame entry b ats → UnaskedAreSame entry b2 (ats ++ at_of a answered ∷ [])
+unasked_on entry b b2 a answered k ats same lock none = same_on entry b b2 lock (same lock (first_nil (asks_at lock ats) (asks_at lock (at_of a answered ∷ [])) parts)) (((k.had).turn).others lock other)
+  where
+    parts : asks_at lock ats ++ asks_at lock (at_of a answered ∷ []) ≡ []
+    parts = sym (filter-append (λ (at : At). at.lock == lock) ats (at_of a answered ∷ [])) ∙ none
+
+    one : lock ≡ a.lock → asks_at lock (at_of a answered ∷ []) ≡ at_of a answered ∷ []
+    one e = ap (λ (is : Bool). if is then at_of a answered ∷ [] else []) (eq-eqb a.lock lock (sym e))
+
+    other : lock ≢ a.lock
+    other e = some_nil (at_of a answered) (sym (one e) ∙ last_nil (asks_at lock ats) (asks_at lock (at_of a answered ∷ [])) parts)
+
 module _ (entry : BoardState) where
   -- what is known of a board between two asks
   pub record Found (b : BoardState) (ats : List At) : Type 0 where
     pub later : IsLater entry b
     pub within : AllByRecursion (λ (at : At). at.len ≤ length (b.histories at.lock)) ats
     pub ordered : AreInOrder ats
+    pub unasked : UnaskedAreSame entry b ats
     pub own : OwnAreMarked entry b ats
     pub turns : TurnsAreMarked entry b ats
 
@@ -58,6 +91,7 @@ module _ (entry : BoardState) where
         within = all-snoc (λ (at : At). at.len ≤ length (b2.histories at.lock)) ats (at_of a answered) still_within (omega (arith, k.len));
         ordered = order-snoc ats (at_of a answered) f.ordered
             (all-map (λ (at : At). at.len ≤ length (b.histories at.lock)) (λ (at : At). NotBefore at (at_of a answered)) (not_before b b2 a.lock a.part answered k) ats f.within);
+        unasked = unasked_on entry b b2 a answered k ats f.unasked;
         own = own_more b b2 a.lock a.part answered k entry ats f.later f.within f.own;
         turns = turns_more b b2 a.lock a.part answered k entry ats f.turns;
       }
@@ -70,7 +104,7 @@ module _ (entry : BoardState) where
     pub todo_is : step_at b2.histories ats step ≡ todo
     pub run : IsLone b → (storing : Storing) → WentSo storing b2.histories → (lock : ℕ) → b2.histories lock ≡ after_asks storing (length ats) b.histories step lock
     pub run_all : IsLone b → (storing : Storing) → WentSo storing b2.histories → (r : Reply) → todo ≡ replies r
-        → (reply_alone storing step b.histories ≡ r) × ((lock : ℕ) → b2.histories lock ≡ after_step storing step b.histories lock)
+        → ((run_step storing b.histories step).1 ≡ r) × ((lock : ℕ) → b2.histories lock ≡ (run_step storing b.histories step).0 lock)
 
   none_chained : (b : BoardState) (before : List At) (step : Step) → Found b before → Chained b b before [] step step
   none_chained b before step f = record {
@@ -79,7 +113,7 @@ module _ (entry : BoardState) where
     asks_are = tt;
     todo_is = refl;
     run = λ lone storing went lock. refl;
-    run_all = λ lone storing went r is. (ap (λ s. reply_alone storing s b.histories) is, λ lock. ap (λ s. after_step storing s b.histories lock) (sym is));
+    run_all = λ lone storing went r is. (ap (λ s. (run_step storing b.histories s).1) is, λ lock. ap (λ s. (run_step storing b.histories s).0 lock) (sym is));
   }
 
   -- one ask, and then those behind it
@@ -123,7 +157,7 @@ module _ (entry : BoardState) where
           let d = c.run_all (lone_on lone) storing went r is in
           let same = answered_alone lone storing went in
           let from = mid_is lone storing went in
-          ((λ i. reply_alone storing (next (sym same i)) (sym from i)) ∙ d.0, λ lock. d.1 lock ∙ (λ i. after_step storing (next (same i)) (from i) lock));
+          ((λ i. (run_step storing (sym from i) (next (sym same i))).1) ∙ d.0, λ lock. d.1 lock ∙ (λ i. (run_step storing (from i) (next (same i))).0 lock));
     }
 
   pub chain : (ats : List At) (step todo : Step) (b b2 : BoardState) (before : List At) → Found b before → AsksOn b b2 ats step todo → Chained b b2 before ats step todo

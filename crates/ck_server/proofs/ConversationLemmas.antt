@@ -1,51 +1,45 @@
 -- A conversation goes on by one request, or by what was read.
-use Rattle.std.proofs.Common.{◌≡◌, ℕ, ◌<◌, ◌≤◌, List, [], ◌∷◌, ◌++◌, length, drop, Bool, true, false, inl, inr, refl, sym, ap, subst, ◌∙◌, arith, append_assoc, append-nil, length-append, Option}
-use Rattle.std.specs.Prelude.{◌⊎◌}
-use Rattle.std.proofs.lemmas.List.{length-map, length-drop, drop-append-le}
-use Rattle.std.specs.List.{AllByRecursion, AllZip, concat}
+use Rattle.std.proofs.Common.{◌≡◌, ℕ, ◌<◌, List, [], ◌∷◌, ◌++◌, length, drop, refl, sym, ap, subst, ◌∙◌, arith, append_assoc, append-nil, Option, Some}
+use Rattle.std.proofs.lemmas.List.{length-drop, drop-append-le}
+use Rattle.std.proofs.lemmas.List.Folds.{concat-append}
+use Rattle.std.specs.List.{concat}
 use Rattle.std.specs.Io.KnownBytes.{Consumes, Appends}
 use Rattle.zone_model.specs.declared.events.Event.{Event}
 use Rattle.zone_model.specs.declared.events.Event.TheVariants.{Made, StoreFailed}
 use Rattle.board_model.specs.Asks.{append_in}
-use Rattle.zone_model.specs.Histories.{Histories, IsFront, Grows}
+use Rattle.zone_model.specs.Histories.{Histories}
 use Rattle.board_model.specs.Turns.{BoardState, AreLegal}
 use Rattle.http_front.specs.Users.{Table}
 use Rattle.http_front.specs.Reading.{most_piece, ReadsOn}
 use Rattle.wire_calls.specs.declared.reply.Reply.{Reply}
-use Rattle.talk_model.specs.declared.marks.At.{At}
 use Rattle.talk_model.specs.declared.marks.Mark.{Mark}
-use Rattle.talk_model.specs.Requests.{Meaning, Wants}
-use Rattle.talk_model.specs.Given.{Given, given_of, givens_of, AreWordsFor}
-use Rattle.talk_model.specs.Calls.{Step, replies, step_for, text_of, text_at, IsReply}
-use Rattle.talk_model.specs.Connections.{most_requests, GoOn, AreOpen, AreClosing}
-use Rattle.talk_model.specs.Marks.{IsLater, step_behind, IsMarkOf, AreMarksOf, AreInOrder, OwnAreMarked, TurnsAreMarked, asks_in}
-use Rattle.talk_model.specs.Talk.{reply_at, talk}
-use Rattle.talk_model.specs.Alone.{Storing, WentSo, after_asks, after_step, reply_alone, after_all, text_alone, alone_text}
-use Rattle.talk_model.proofs.GrowthLemmas.{front-length, later_same, later_on, mark-grown, behind-grown, marks-grown, talk-grown}
-use Rattle.talk_model.proofs.MarkLemmas.{all-snoc, zip-snoc, concat-snoc, asks_in-snoc, givens_of-snoc, marks-snoc, talk-snoc, marks-length, marks-within}
-use Rattle.talk_model.proofs.AloneLemmas.{after_all-snoc, alone_text-snoc}
+use Rattle.talk_model.specs.Requests.{Meaning, Wants, HasInFront}
+use Rattle.talk_model.specs.Given.{Given, given_of, AreWordsFor}
+use Rattle.talk_model.specs.Calls.{Step, replies, step_for, text_of, text_at}
+use Rattle.talk_model.specs.Marks.{IsLater, IsMarkOf, AreMarksOf, AreInOrder, asks_in}
+use Rattle.talk_model.specs.Talk.{talk}
+use Rattle.talk_model.specs.Alone.{Storing, WentSo, after_asks, run_step, after_all, replies_alone}
+use Rattle.talk_model.proofs.GrowthLemmas.{front-length, OwnAreMarked, TurnsAreMarked, later_same, later_on, mark-grown, behind-grown, marks-grown, talk-grown}
+use Rattle.talk_model.proofs.MarkLemmas.{reply_at, zip-snoc, concat-snoc, asks_in-snoc, asked-snoc, marks-snoc, talk-snoc, marks-length, marks-within}
+use Rattle.talk_model.proofs.AloneLemmas.{after_all-snoc, replies-snoc}
 use Rattle.ck_devices.proofs.Streams.{consumes-nil, appends-nil, consumes_on, appends_on}
-use Rattle.ck_server.specs.Conversations.{Standing, IsLone, OfLone, Conversed, AreSettled, IsOfReply}
-use Rattle.ck_server.specs.Outcomes.{IsInFront, MayBeAsking, WasAsking}
-use Rattle.ck_server.specs.Answering.{Place, AsksOn, Replies}
+use Rattle.ck_server.specs.Conversations.{Standing, IsLone, asked_for, Conversed, AreSettled}
+use Rattle.ck_server.specs.Outcomes.{Course, MayBeAsking, WasAsking}
+use Rattle.ck_server.specs.Answering.{AsksOn, Replies}
 use Rattle.ck_server.proofs.AheadLemmas.{piece_of_little, piece_on}
-use Rattle.ck_server.proofs.AskingLemmas.{MayGrow, may_grow, Found, Chained, chain}
+use Rattle.ck_server.proofs.AskingLemmas.{UnaskedAreSame, MayGrow, may_grow, Found, Chained, chain}
 
 -- nothing was said yet
-abbrev pub conversed-start : (t : Table) (entry : Standing) → AreLegal entry.board.histories → Conversed t entry entry [] [] [] []
+abbrev pub conversed-start : (t : Table) (entry : Standing) → AreLegal entry.board.histories → Conversed t entry entry [] [] [] [] []
 conversed-start t entry legal = record {
   requests = [];
-  wanted = [];
   sent = [];
   each = tt;
-  few = omega arith;
-  closing = inl tt;
   consumed = consumes-nil entry.left;
   ahead = piece_of_little [] (omega arith);
   board = later_same entry.board;
   legal = legal;
   marked = tt;
-  ordered = tt;
   text = refl;
   appended = appends-nil entry.held;
   said = λ lone storing went. refl;
@@ -56,15 +50,12 @@ abbrev pub with_source : Standing → Option (List ℕ) → ℕ → Standing
 with_source s left faults = record { left = left; source_faults = faults; held = s.held; sink_faults = s.sink_faults; board = s.board }
 
 -- what was read stands behind the requests
-abbrev pub conversed_took : (t : Table) (entry now : Standing) (left : Option (List ℕ)) (faults : ℕ) (marks : List Mark) (old new last unsent : List ℕ) → (c : Conversed t entry now marks old last unsent) → length old < most_piece → ReadsOn now.left left old new
-    → Conversed t entry (with_source now left faults) marks new last unsent
-conversed_took t entry now left faults marks old new last unsent c little read = record {
+abbrev pub conversed_took : (t : Table) (entry now : Standing) (left : Option (List ℕ)) (faults : ℕ) (wanted : List Meaning) (marks : List Mark) (old new : List ℕ) → (c : Conversed t entry now wanted marks old [] []) → length old < most_piece → ReadsOn now.left left old new
+    → Conversed t entry (with_source now left faults) wanted marks new [] []
+conversed_took t entry now left faults wanted marks old new c little read = record {
   requests = c.requests;
-  wanted = c.wanted;
   sent = c.sent;
   each = c.each;
-  few = c.few;
-  closing = c.closing;
   consumed =
       subst (λ (bytes : List ℕ). Consumes entry.left left bytes) (append_assoc (concat c.requests) old read.taken ∙ ap (λ bytes. concat c.requests ++ bytes) (sym read.grown))
       (consumes_on entry.left now.left left (concat c.requests ++ old) read.taken c.consumed read.consumed);
@@ -72,7 +63,6 @@ conversed_took t entry now left faults marks old new last unsent c little read =
   board = c.board;
   legal = c.legal;
   marked = c.marked;
-  ordered = c.ordered;
   text = c.text;
   appended = c.appended;
   said = c.said;
@@ -82,25 +72,25 @@ conversed_took t entry now left faults marks old new last unsent c little read =
 abbrev pub with_sink : Standing → Option (List ℕ) → ℕ → Standing
 with_sink s held faults = record { left = s.left; source_faults = s.source_faults; held = held; sink_faults = faults; board = s.board }
 
--- a text was written last, but for unsent
-abbrev pub conversed_sent : (t : Table) (entry now : Standing) (held : Option (List ℕ)) (faults : ℕ) (marks : List Mark) (rest last sent unsent : List ℕ) → (c : Conversed t entry now marks rest [] []) → last ≡ sent ++ unsent → Appends now.held held sent
-    → Conversed t entry (with_sink now held faults) marks rest last unsent
-conversed_sent t entry now held faults marks rest last sent unsent c parts appended = record {
+-- all replies were written
+pub all_sent : (t : Table) (entry now : Standing) (wanted : List Meaning) (marks : List Mark) (rest : List ℕ) (c : Conversed t entry now wanted marks rest [] []) → concat (talk wanted marks now.board.histories) ≡ c.sent
+all_sent t entry now wanted marks rest c = ap concat (sym (append-nil (talk wanted marks now.board.histories))) ∙ (c.text ∙ append-nil c.sent)
+
+-- texts were written last, but for unsent
+abbrev pub conversed_sent : (t : Table) (entry now : Standing) (held : Option (List ℕ)) (faults : ℕ) (wanted : List Meaning) (marks : List Mark) (rest : List ℕ) (last : List (List ℕ)) (sent unsent : List ℕ) → (c : Conversed t entry now wanted marks rest [] []) → concat last ≡ sent ++ unsent → Appends now.held held sent
+    → Conversed t entry (with_sink now held faults) wanted marks rest last unsent
+conversed_sent t entry now held faults wanted marks rest last sent unsent c parts appended = record {
   requests = c.requests;
-  wanted = c.wanted;
   sent = c.sent ++ sent;
   each = c.each;
-  few = c.few;
-  closing = c.closing;
   consumed = c.consumed;
   ahead = c.ahead;
   board = c.board;
   legal = c.legal;
   marked = c.marked;
-  ordered = c.ordered;
   text =
-      let before : talk c.wanted marks (now.board).histories ≡ c.sent = sym (append-nil (talk c.wanted marks (now.board).histories)) ∙ (c.text ∙ append-nil c.sent) in
-      (λ i. before i ++ parts i) ∙ sym (append_assoc c.sent sent unsent);
+      let before : concat (talk wanted marks (now.board).histories) ≡ c.sent = all_sent t entry now wanted marks rest c in
+      concat-append (talk wanted marks (now.board).histories) last ∙ ((λ i. before i ++ parts i) ∙ sym (append_assoc c.sent sent unsent));
   appended = appends_on entry.held now.held held c.sent sent c.appended appended;
   said = c.said;
 }
@@ -119,34 +109,37 @@ went_before storing b b2 later went lock number within =
     first_of (StoreFailed origin from to ∷ xs) more some = refl
 
 -- the board may have been asked, and nothing was written
-abbrev pub conversed_grown : (t : Table) (entry now later : Standing) (marks : List Mark) (rest : List ℕ) → (c : Conversed t entry now marks rest [] []) → MayGrow now.board later.board → later.left ≡ now.left → Appends now.held later.held []
-    → Conversed t entry later marks rest [] []
-conversed_grown t entry now later marks rest c g same_left kept =
-    let same = talk-grown entry.board now.board later.board g.later 0 marks c.wanted c.marked in
+abbrev pub conversed_grown : (t : Table) (entry now later : Standing) (wanted : List Meaning) (marks : List Mark) (rest : List ℕ) → (c : Conversed t entry now wanted marks rest [] []) → MayGrow now.board later.board → later.left ≡ now.left → Appends now.held later.held []
+    → Conversed t entry later wanted marks rest [] []
+conversed_grown t entry now later wanted marks rest c g same_left kept =
+    let same = talk-grown entry.board now.board later.board g.later 0 marks wanted c.marked in
     record {
       requests = c.requests;
-      wanted = c.wanted;
       sent = c.sent;
       each = c.each;
-      few = c.few;
-      closing = c.closing;
       consumed = subst (λ (l : Option (List ℕ)). Consumes entry.left l (concat c.requests ++ rest)) (sym same_left) c.consumed;
       ahead = c.ahead;
       board = later_on entry.board now.board later.board c.board g.later;
       legal = g.legal c.legal;
-      marked = marks-grown entry.board now.board later.board g.later 0 marks c.wanted c.marked;
-      ordered = c.ordered;
-      text = ap (λ (l : List ℕ). l ++ []) same ∙ c.text;
+      marked = marks-grown entry.board now.board later.board g.later 0 marks wanted c.marked;
+      text = ap (λ (texts : List (List ℕ)). concat (texts ++ [])) same ∙ c.text;
       appended = subst (λ (bytes : List ℕ). Appends entry.held later.held bytes) (append-nil c.sent) (appends_on entry.held now.held later.held c.sent [] c.appended kept);
       said = λ lone storing went. same ∙ c.said lone storing (went_before storing now.board later.board g.later went);
     }
 
--- one request more, which asks to close or not
-closing-on : (ws : List Meaning) (w : Meaning) → AreOpen ws → (b : Bool) → w.close ≡ b → GoOn (ws ++ w ∷ []) ⊎ AreClosing (ws ++ w ∷ [])
-closing-on ws w o true is = inr (record { before = ws; last = w; parts = refl; open_before = o; closes = is })
-closing-on ws w o false is = inl (all-snoc (λ (v : Meaning). v.close ≡ false) ws w o.go_on is)
+-- how far a conversation went that wrote all that it had to
+abbrev pub course : List Meaning → List Mark → List Mark → List Given → List ℕ → Course
+course wanted done begun more rest = record { wanted = wanted; done = done; begun = begun; more = more; rest = rest; last = []; unsent = [] }
 
-module _ (t : Table) (entry now : Standing) (old : List Mark) (buffer : List ℕ) (c : Conversed t entry now old buffer [] []) (settled : AreSettled entry now old c.wanted) (number : ℕ) (count : number ≡ length old) where
+-- where a request more was answered, but for unsent
+pub record OneMore (t : Table) (entry later : Standing) (wanted : List Meaning) (marks : List Mark) (rest unsent : List ℕ) : Type 0 where
+  pub conversed : Conversed t entry later wanted marks rest [] unsent
+  pub settled : AreSettled entry.board later.board wanted marks
+  pub before : List (List ℕ)
+  pub front : List ℕ
+  pub texts : talk wanted marks later.board.histories ++ [] ≡ before ++ (front ++ unsent) ∷ []
+
+module _ (t : Table) (entry now : Standing) (wanted : List Meaning) (old : List Mark) (buffer : List ℕ) (c : Conversed t entry now wanted old buffer [] []) (settled : AreSettled entry.board now.board wanted old) (number : ℕ) (count : number ≡ length old) where
   abbrev eh : Histories Event
   eh = (entry.board).histories
 
@@ -154,10 +147,10 @@ module _ (t : Table) (entry now : Standing) (old : List Mark) (buffer : List ℕ
   nh = (now.board).histories
 
   found : Found entry.board now.board (asks_in old)
-  found = record { later = c.board; within = marks-within entry.board now.board 0 old c.wanted c.marked; ordered = c.ordered; own = settled.own; turns = settled.turns }
+  found = record { later = c.board; within = marks-within entry.board now.board 0 old wanted c.marked; ordered = settled.ordered; unasked = settled.unasked; own = settled.own; turns = settled.turns }
 
   abbrev run : Storing → Histories Event
-  run storing = after_all storing eh c.wanted (givens_of old)
+  run storing = after_all storing eh (asked_for wanted old)
 
   lone_now : IsLone entry.board → IsLone now.board
   lone_now lone = ((c.board).still ∙ lone.0, λ lock. (c.board).stays lock 0 (lone.1 lock))
@@ -170,7 +163,7 @@ module _ (t : Table) (entry now : Standing) (old : List Mark) (buffer : List ℕ
     step = step_for w.want (given_of m)
 
     -- a request whose asks were whole up to the next one
-    module _ (later : Standing) (rest : List ℕ) (front : IsInFront t c.wanted rest w) (reached : BoardState) (todo : Step)
+    module _ (later : Standing) (rest : List ℕ) (front : HasInFront t rest (Some w)) (reached : BoardState) (todo : Step)
         (on : AsksOn now.board reached m.asks.items step todo) (may : MayBeAsking reached later.board todo) where
       abbrev reaching : Chained entry.board now.board reached (asks_in old) m.asks.items step todo
       reaching = chain entry.board m.asks.items step todo now.board reached (asks_in old) found on
@@ -184,15 +177,16 @@ module _ (t : Table) (entry now : Standing) (old : List Mark) (buffer : List ℕ
       pub grows_since : MayGrow now.board later.board
       grows_since = record { later = later_on now.board reached later.board (reaching.grows).later since.later; legal = λ l. since.legal ((reaching.grows).legal l) }
 
-      pub was_asking : WasAsking t entry later c.wanted old rest m
+      pub was_asking : WasAsking t entry.board later.board (course wanted old (m ∷ []) [] rest) m
       was_asking = record {
         wanted = w;
         front = front;
         marked = subst (λ (n : ℕ). IsMarkOf n entry.board later.board m w) count (mark-grown entry.board reached later.board since.later number m w mark_there);
-        ordered = subst AreInOrder (sym (asks_in-snoc old m)) (reaching.found).ordered;
         found = reached;
         later = later_on entry.board now.board reached c.board (reaching.grows).later;
         settled = record {
+          ordered = subst AreInOrder (sym (asks_in-snoc old m)) (reaching.found).ordered;
+          unasked = subst (UnaskedAreSame entry.board reached) (sym (asks_in-snoc old m)) (reaching.found).unasked;
           own = subst (OwnAreMarked entry.board reached) (sym (asks_in-snoc old m)) (reaching.found).own;
           turns = subst (TurnsAreMarked entry.board reached) (sym (asks_in-snoc old m)) (reaching.found).turns;
           left_behind = λ lone storing went lock.
@@ -215,14 +209,11 @@ module _ (t : Table) (entry now : Standing) (old : List Mark) (buffer : List ℕ
       mark_is : IsMarkOf number entry.board later.board m w
       mark_is = record { request = request; words = words; asks = chained.asks_are }
 
-      whole : IsReply (step_behind lh m w)
-      whole = subst IsReply (sym chained.todo_is) tt
+      marked_before : AreMarksOf 0 entry.board later.board old wanted
+      marked_before = marks-grown entry.board now.board later.board since_now 0 old wanted c.marked
 
-      marked_before : AreMarksOf 0 entry.board later.board old c.wanted
-      marked_before = marks-grown entry.board now.board later.board since_now 0 old c.wanted c.marked
-
-      talk_before : talk c.wanted old lh ≡ talk c.wanted old nh
-      talk_before = talk-grown entry.board now.board later.board since_now 0 old c.wanted c.marked
+      talk_before : talk wanted old lh ≡ talk wanted old nh
+      talk_before = talk-grown entry.board now.board later.board since_now 0 old wanted c.marked
 
       abbrev text : List ℕ
       text = text_of w.close reply
@@ -230,47 +221,40 @@ module _ (t : Table) (entry now : Standing) (old : List Mark) (buffer : List ℕ
       reply_is : reply_at lh m w ≡ text
       reply_is = ap (text_at w.close) chained.todo_is
 
-      talk_now : talk (c.wanted ++ w ∷ []) (old ++ m ∷ []) lh ≡ talk c.wanted old nh ++ text
-      talk_now = talk-snoc entry.board later.board 0 old c.wanted m w marked_before ∙ (λ i. talk_before i ++ reply_is i)
+      talk_now : talk (wanted ++ w ∷ []) (old ++ m ∷ []) lh ≡ talk wanted old nh ++ text ∷ []
+      talk_now = talk-snoc entry.board later.board 0 old wanted m w marked_before ∙ (λ i. talk_before i ++ reply_is i ∷ [])
 
-      as_many : length c.wanted ≡ length (givens_of old)
-      as_many = sym (length-map old given_of ∙ marks-length entry.board now.board 0 old c.wanted c.marked)
+      as_many : length old ≡ length wanted
+      as_many = marks-length entry.board now.board 0 old wanted c.marked
 
       module _ (lone : IsLone entry.board) (storing : Storing) (went : WentSo storing lh) where
         from_run : nh ≡ run storing
         from_run = histories_are later.board since_now lone storing went
 
-        run_text : text_alone storing (run storing) w (given_of m) ≡ text
-        run_text = (λ i. text_of w.close (reply_alone storing step (sym from_run i))) ∙ ap (text_of w.close) (chained.run_all (lone_now lone) storing went reply refl).0
+        run_text : text_of w.close (run_step storing (run storing) step).1 ≡ text
+        run_text = (λ i. text_of w.close (run_step storing (sym from_run i) step).1) ∙ ap (text_of w.close) (chained.run_all (lone_now lone) storing went reply refl).0
 
-        said_now : talk (c.wanted ++ w ∷ []) (old ++ m ∷ []) lh ≡ alone_text storing eh (c.wanted ++ w ∷ []) (givens_of (old ++ m ∷ []))
+        said_now : talk (wanted ++ w ∷ []) (old ++ m ∷ []) lh ≡ replies_alone storing eh (asked_for (wanted ++ w ∷ []) (old ++ m ∷ []))
         said_now =
-            let run_all : alone_text storing eh (c.wanted ++ w ∷ []) (givens_of (old ++ m ∷ [])) ≡ talk c.wanted old nh ++ text =
-            ap (alone_text storing eh (c.wanted ++ w ∷ [])) (givens_of-snoc old m)
-            ∙ (alone_text-snoc storing eh c.wanted (givens_of old) w (given_of m) as_many ∙ (λ i. sym (c.said lone storing (went_before storing now.board later.board since_now went)) i ++ run_text i)) in
+            let run_all : replies_alone storing eh (asked_for (wanted ++ w ∷ []) (old ++ m ∷ [])) ≡ talk wanted old nh ++ text ∷ [] =
+            ap (replies_alone storing eh) (asked-snoc wanted old w m as_many)
+            ∙ (replies-snoc storing eh (asked_for wanted old) w (given_of m) ∙ (λ i. sym (c.said lone storing (went_before storing now.board later.board since_now went)) i ++ run_text i ∷ [])) in
             talk_now ∙ sym run_all
 
-        left_behind_now : (lock : ℕ) → lh lock ≡ after_all storing eh (c.wanted ++ w ∷ []) (givens_of (old ++ m ∷ [])) lock
+        left_behind_now : (lock : ℕ) → lh lock ≡ after_all storing eh (asked_for (wanted ++ w ∷ []) (old ++ m ∷ [])) lock
         left_behind_now lock =
-            let run_now : after_all storing eh (c.wanted ++ w ∷ []) (givens_of (old ++ m ∷ [])) ≡ after_step storing step (run storing) =
-            ap (after_all storing eh (c.wanted ++ w ∷ [])) (givens_of-snoc old m) ∙ after_all-snoc storing eh c.wanted (givens_of old) w (given_of m) as_many in
-            (chained.run_all (lone_now lone) storing went reply refl).1 lock ∙ ((λ i. after_step storing step (from_run i) lock) ∙ ap (λ (g : Histories Event). g lock) (sym run_now))
-
-      talk_all : talk c.wanted old nh ≡ c.sent
-      talk_all = sym (append-nil (talk c.wanted old nh)) ∙ (c.text ∙ append-nil c.sent)
+            let run_now : after_all storing eh (asked_for (wanted ++ w ∷ []) (old ++ m ∷ [])) ≡ (run_step storing (run storing) step).0 =
+            ap (after_all storing eh) (asked-snoc wanted old w m as_many) ∙ after_all-snoc storing eh (asked_for wanted old) w (given_of m) in
+            (chained.run_all (lone_now lone) storing went reply refl).1 lock ∙ ((λ i. (run_step storing (from_run i) step).0 lock) ∙ ap (λ (g : Histories Event). g lock) (sym run_now))
 
       -- the request was marked, and its reply was written but for unsent
-      conversed_marked : number < most_requests → (open_now : AreOpen c.wanted) → (buffer2 : List ℕ) → length buffer2 < most_piece → (bytes taken : List ℕ) → Consumes now.left later.left taken → buffer ++ taken ≡ bytes ++ buffer2 → Wants t bytes w
-          → (sent unsent : List ℕ) → text ≡ sent ++ unsent → Appends now.held later.held sent
-          → (c2 : Conversed t entry later (old ++ m ∷ []) buffer2 [] unsent) × (c2.wanted ≡ c.wanted ++ w ∷ []) × AreSettled entry later (old ++ m ∷ []) c2.wanted × IsOfReply entry later c2.wanted (old ++ m ∷ []) unsent
-      conversed_marked few open_now buffer2 little bytes taken consumed parts is sent unsent text_is appended = (
-        record {
+      conversed_marked : (buffer2 : List ℕ) → length buffer2 < most_piece → (bytes taken : List ℕ) → Consumes now.left later.left taken → buffer ++ taken ≡ bytes ++ buffer2 → Wants t bytes w
+          → (sent unsent : List ℕ) → text ≡ sent ++ unsent → Appends now.held later.held sent → OneMore t entry later (wanted ++ w ∷ []) (old ++ m ∷ []) buffer2 unsent
+      conversed_marked buffer2 little bytes taken consumed parts is sent unsent text_is appended = record {
+        conversed = record {
           requests = c.requests ++ bytes ∷ [];
-          wanted = c.wanted ++ w ∷ [];
           sent = c.sent ++ sent;
-          each = zip-snoc (Wants t) c.requests c.wanted bytes w c.each is;
-          few = omega (arith, length-append old (m ∷ []), count, few);
-          closing = closing-on c.wanted w open_now w.close refl;
+          each = zip-snoc (Wants t) c.requests wanted bytes w c.each is;
           consumed =
               let bytes_are : (concat c.requests ++ buffer) ++ taken ≡ concat (c.requests ++ bytes ∷ []) ++ buffer2 =
               append_assoc (concat c.requests) buffer taken ∙ (ap (λ b. concat c.requests ++ b) parts
@@ -279,36 +263,30 @@ module _ (t : Table) (entry now : Standing) (old : List Mark) (buffer : List ℕ
           ahead = piece_of_little buffer2 little;
           board = later_on entry.board now.board later.board c.board since_now;
           legal = (chained.grows).legal c.legal;
-          marked = marks-snoc entry.board later.board 0 number old c.wanted m w (omega (arith, count)) marked_before mark_is whole;
-          ordered = subst AreInOrder (sym (asks_in-snoc old m)) (chained.found).ordered;
+          marked = marks-snoc entry.board later.board 0 number old wanted m w (omega (arith, count)) marked_before (mark_is, reply, chained.todo_is);
           text =
-              append-nil (talk (c.wanted ++ w ∷ []) (old ++ m ∷ []) lh) ∙ (talk_now ∙ ((λ i. talk_all i ++ text_is i) ∙ sym (append_assoc c.sent sent unsent)));
+              let all : concat (talk wanted old nh) ≡ c.sent = all_sent t entry now wanted old buffer c in
+              ap concat (append-nil (talk (wanted ++ w ∷ []) (old ++ m ∷ []) lh) ∙ talk_now)
+              ∙ (concat-snoc (talk wanted old nh) text ∙ ((λ i. all i ++ text_is i) ∙ sym (append_assoc c.sent sent unsent)));
           appended = appends_on entry.held now.held later.held c.sent sent c.appended appended;
           said = said_now;
-        },
-        refl,
-        record {
+        };
+        settled = record {
+          ordered = subst AreInOrder (sym (asks_in-snoc old m)) (chained.found).ordered;
+          unasked = subst (UnaskedAreSame entry.board later.board) (sym (asks_in-snoc old m)) (chained.found).unasked;
           own = subst (OwnAreMarked entry.board later.board) (sym (asks_in-snoc old m)) (chained.found).own;
           turns = subst (TurnsAreMarked entry.board later.board) (sym (asks_in-snoc old m)) (chained.found).turns;
           left_behind = left_behind_now;
-        },
-        record {
-          earlier = c.wanted;
-          request = w;
-          before = old;
-          mark = m;
-          requests_are = refl;
-          marks_are = refl;
-          ends = (sent, reply_is ∙ text_is);
-          said = λ lone storing went. (sent, run_text lone storing went ∙ text_is);
-        },
-      )
+        };
+        before = talk wanted old nh;
+        front = sent;
+        texts = append-nil (talk (wanted ++ w ∷ []) (old ++ m ∷ []) lh) ∙ (talk_now ∙ ap (λ (x : List ℕ). talk wanted old nh ++ x ∷ []) text_is);
+      }
 
   -- a whole request was taken and answered, and of the reply all but unsent was written
-  pub conversed_on : (later : Standing) → number < most_requests → AreOpen c.wanted → (gave : List Given → Type 0) (new : List Mark) (buffer2 unsent bytes taken : List ℕ) (w : Meaning) → length buffer2 < most_piece
+  pub conversed_on : (later : Standing) → (gave : List Given → Type 0) (new : List Mark) (buffer2 unsent bytes taken : List ℕ) (w : Meaning) → length buffer2 < most_piece
       → Consumes now.left later.left taken → buffer ++ taken ≡ bytes ++ buffer2 → Wants t bytes w
-      → Replies gave number (record { held = now.held; board = now.board }) (record { held = later.held; board = later.board }) old new w unsent
-      → (c2 : Conversed t entry later new buffer2 [] unsent) × (c2.wanted ≡ c.wanted ++ w ∷ []) × AreSettled entry later new c2.wanted × IsOfReply entry later c2.wanted new unsent
-  conversed_on later few open_now gave new buffer2 unsent bytes taken w little consumed parts is rep =
-      subst (λ (marks : List Mark). (c2 : Conversed t entry later marks buffer2 [] unsent) × (c2.wanted ≡ c.wanted ++ w ∷ []) × AreSettled entry later marks c2.wanted × IsOfReply entry later c2.wanted marks unsent) (sym rep.marks)
-      (conversed_marked w rep.mark rep.request rep.words later rep.reply rep.asked few open_now buffer2 little bytes taken consumed parts is rep.sent unsent rep.text rep.appended)
+      → Replies gave number (record { held = now.held; board = now.board }) (record { held = later.held; board = later.board }) old new w unsent → OneMore t entry later (wanted ++ w ∷ []) new buffer2 unsent
+  conversed_on later gave new buffer2 unsent bytes taken w little consumed parts is rep =
+      subst (λ (marks : List Mark). OneMore t entry later (wanted ++ w ∷ []) marks buffer2 unsent) (sym rep.marks)
+      (conversed_marked w rep.mark rep.request rep.words later rep.reply rep.asked buffer2 little bytes taken consumed parts is rep.sent unsent rep.text rep.appended)

@@ -13,6 +13,7 @@ use Rattle.talk_model.specs.declared.ends.TalkFaultKind.TheVariants.{ReadFault, 
 use Rattle.talk_model.specs.Connections.{last_text}
 use Rattle.ck_server.specs.Answering.{Sends}
 use Rattle.ck_server.specs.Finishing.{end_at, Finishes}
+use Rattle.ck_server.proofs.CauseLemmas.{no_end}
 use Rattle.wire_calls.specs.declared.reply.Reply.{Reply}
 use Rattle.wire_calls.specs.declared.reply.Reply.TheVariants.{Modify, Lookup, Refused}
 use Rattle.wire_calls.specs.Replies.{reply_status}
@@ -43,4 +44,4 @@ finishes_refused held now f end (Ok e) is sends same =
     (is ∙ ap (λ (x : End). Some x) (sym the_end), subst (λ (x : End). Appends held now (last_text x)) (sym the_end) sends)
 finishes_refused held now f end (Err ReadFault) is sends same = absurd sends
 finishes_refused held now f end (Err WriteFault) is sends same = record { end = end; is = is; front = sends }
-finishes_refused held now f end (Err NoMemory) is sends same = sends
+finishes_refused held now f end (Err NoMemory) is sends same = (no_end f end is, sends)

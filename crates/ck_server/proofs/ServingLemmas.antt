@@ -1,6 +1,6 @@
 -- How a request is served.
-use Rattle.std.proofs.Common.{◌≡◌, ℕ, ◌<◌, ◌≤◌, ◌^◌, Bool, true, false, List, [], ◌∷◌, ◌++◌, length, take, drop, refl, sym, ap, subst, ◌∙◌, arith, inl, inr, append-nil, Option, Some, None, Result, Ok, Err}
-use Rattle.std.specs.Prelude.{◌⊎◌}
+use Rattle.std.proofs.Common.{◌≡◌, ℕ, ◌<◌, ◌≤◌, ◌^◌, Bool, true, false, List, [], ◌∷◌, ◌++◌, length, take, drop, refl, sym, ap, subst, ◌∙◌, arith, inl, inr, append-nil, Option, Some, Result, Ok, Err}
+use Rattle.std.specs.Prelude.{◌⊎◌, MatchBool}
 use Rattle.std.proofs.lemmas.List.{take-append-drop, length-drop}
 use Rattle.std.proofs.lemmas.Bool.{and_parts}
 use Rattle.std.specs.Result.{IsErrAnd}
@@ -18,7 +18,6 @@ use Rattle.board_model.specs.declared.answers.Answer.TheVariants as answer
 use Rattle.ck_devices.specs.Runs.{GivesInTurn}
 use Rattle.ck_devices.specs.declared.faults.Failed.{Failed}
 use Rattle.ck_devices.specs.Fronts.{WritesFront}
-use Rattle.ck_devices.proofs.Streams.{appends-nil}
 use Rattle.error_replies.specs.declared.errors.ServerError.{ServerError}
 use Rattle.error_replies.specs.declared.errors.ServerError.TheVariants.{TryAgainLater}
 use Rattle.wire_calls.specs.declared.call.ModifyCall.{ModifyCall}
@@ -37,8 +36,8 @@ use Rattle.talk_model.specs.declared.ends.TalkFaultKind.{TalkFaultKind}
 use Rattle.talk_model.specs.declared.ends.TalkFaultKind.TheVariants.{ReadFault, WriteFault, NoMemory}
 use Rattle.field_values.specs.ZoneIds.{IsMeantZone}
 use Rattle.talk_model.specs.Requests.{Meaning, is_private, want_of}
-use Rattle.talk_model.specs.Given.{Given, given_of, words_of_call, AreSoMany, AreWordsFor, draws_in, GaveFor}
-use Rattle.talk_model.specs.Calls.{Ask, Step, asks, replies, scope_of, lock_of_zone, modify_reply, lookup_reply, step_of, step_for, text_of}
+use Rattle.talk_model.specs.Given.{Given, given_of, words_of, AreWordsFor, draws_by, GaveFor}
+use Rattle.talk_model.specs.Calls.{Step, asks, replies, scope_of, lock_of_zone, modify_reply, lookup_reply, step_of, step_for, text_of}
 use Rattle.ck_server.specs.declared.serving.Served.{Served}
 use Rattle.ck_server.specs.declared.serving.Served.TheVariants as served
 use Rattle.ck_server.specs.declared.asking.Asking.{Asking}
@@ -170,7 +169,7 @@ pub gave_for : {C R : Type 0} (clock : C → ℕ → C → Type 0) (draws : R �
     → GaveFor clock draws c c2 r r2 given
 gave_for clock draws c c2 r r2 moment read given one = subst (λ (gs : List Given). GaveFor clock draws c c2 r r2 gs) (sym one.1) (record {
   moments = (c2, subst (λ (n : ℕ). clock c n c2) (sym one.2) read, refl);
-  words = subst (λ (l : List (Result (List ℕ) Failed)). GivesInTurn draws r l r2) (sym (append-nil (draws_in one.0))) one.3;
+  words = subst (λ (l : List (Result (List ℕ) Failed)). GivesInTurn draws r l r2) (sym (append-nil (draws_by (one.0).words (one.0).drawn))) one.3;
 })
 
 pub gave_none : {C R : Type 0} (clock : C → ℕ → C → Type 0) (draws : R → Result (List ℕ) Failed → R → Type 0) (c : C) (r : R) → GaveFor clock draws c c r r []
@@ -253,7 +252,7 @@ own_default caller Private key lock private own zone lock_is = record {
 own_default caller Shared key lock private own zone lock_is = absurd (cc)
 own_default caller Public key lock private own zone lock_is = absurd (cc)
 
-may_be_asked : (call : Call) (g : Given) → IsServable call → length g.words ≡ words_of_call call → g.moment < 2 ^ 64 → MayBeAsked (asking_of call g).lock (asking_of call g).part
+may_be_asked : (call : Call) (g : Given) → IsServable call → length g.words ≡ words_of (Called call) → g.moment < 2 ^ 64 → MayBeAsked (asking_of call g).lock (asking_of call g).part
 may_be_asked (Modify c) g able words moment =
     let built = and_parts _ _ able.built in
     let own = and_parts _ _ built.1 in
@@ -266,7 +265,7 @@ may_be_asked (Lookup c) g able words moment =
     let meant = able.meant in
     own_default c.caller c.database c.zone (lock_of_zone c.zone) built.0 built.1 meant.zone refl
 
-has_ops : (call : Call) (g : Given) → IsServable call → length g.words ≡ words_of_call call → HasMeantOps (asking_of call g).part
+has_ops : (call : Call) (g : Given) → IsServable call → length g.words ≡ words_of (Called call) → HasMeantOps (asking_of call g).part
 has_ops (Modify c) g able words = let meant = able.meant in (meant.ops, words)
 has_ops (Lookup c) g able words = tt
 
@@ -274,7 +273,7 @@ low_lock : (call : Call) (g : Given) → (asking_of call g).lock < 16
 low_lock (Modify c) g = omega arith
 low_lock (Lookup c) g = omega arith
 
-pub is_askable : (call : Call) (g : Given) (asking : Asking) → IsServable call → length g.words ≡ words_of_call call → g.moment < 2 ^ 64 → asking ≡ asking_of call g → IsAskable asking
+pub is_askable : (call : Call) (g : Given) (asking : Asking) → IsServable call → length g.words ≡ words_of (Called call) → g.moment < 2 ^ 64 → asking ≡ asking_of call g → IsAskable asking
 is_askable call g asking able words moment is = subst IsAskable (sym is) (record { lock = low_lock call g; part = may_be_asked call g able words moment; ops = has_ops call g able words })
 
 -- no word was drawn, since memory ran out before
@@ -286,10 +285,10 @@ pub known_undrawn : (t : Table) (r : Request) (close : Bool) (call : Call) (mome
 known_undrawn t r close call moment closes wants =
     (record { wanted = record { close = close; want = Called call }; is = record { close = sym closes; want = wants }; words = inl (refl, refl) }, tt)
 
-module _ (gave : List Given → Type 0) (number : ℕ) (before after : Place) (old new : List Mark) (close : Bool) (call : Call) (g : Given) (given : gave (g ∷ [])) (drawn : g.drawn ≡ true) (words : length g.words ≡ words_of_call call)
+module _ (gave : List Given → Type 0) (number : ℕ) (before after : Place) (old new : List Mark) (close : Bool) (call : Call) (g : Given) (given : gave (g ∷ [])) (drawn : g.drawn ≡ true) (words : length g.words ≡ words_of (Called call))
     (asking : Asking) (asking_is : asking ≡ asking_of call g) where
   all_drawn : AreWordsFor (Called call) g
-  all_drawn = subst (λ (b : Bool). AreSoMany b (words_of_call call) (length g.words)) (sym drawn) words
+  all_drawn = subst (λ (b : Bool). MatchBool b (length g.words ≡ words_of (Called call)) (length g.words < words_of (Called call))) (sym drawn) words
 
   its_step : step_from asking ≡ step_for (Called call) g
   its_step = ap step_from asking_is ∙ (step_is call g ∙ rw drawn refl)

@@ -1,5 +1,5 @@
 -- How a conversation finishes where no further request is read.
-use Rattle.std.specs.Prelude.{◌≡◌, ℕ, List, [], Option, Some, None, Result, Ok, Err}
+use Rattle.std.specs.Prelude.{◌≡◌, ◌≢◌, ℕ, List, [], Option, Some, None, Result, Ok, Err}
 use Rattle.std.specs.Io.KnownBytes.{Appends}
 use Rattle.ck_devices.specs.Fronts.{WritesFront}
 use Rattle.http_front.specs.declared.faults.FrontFault.{FrontFault}
@@ -27,9 +27,9 @@ pub record BreaksLast (held now : Option (List ℕ)) (f : FrontFault) : Type 0 w
   pub is : end_at f ≡ Some end
   pub front : WritesFront held now (last_text end)
 
--- what is written at the end was written, or a front of it; or there is no end, but the fault; or memory ran out
+-- what is written at the end was written, or a front of it; or there is no end, but the fault; or memory ran out, and no read had failed
 abbrev pub Finishes : Option (List ℕ) → Option (List ℕ) → FrontFault → Result End TalkFaultKind → Type 0
 Finishes held now f (Ok end) = (end_at f ≡ Some end) × Appends held now (last_text end)
 Finishes held now f (Err ReadFault) = (f ≡ fault.ReadFault) × Appends held now []
 Finishes held now f (Err WriteFault) = BreaksLast held now f
-Finishes held now f (Err NoMemory) = Appends held now []
+Finishes held now f (Err NoMemory) = (f ≢ fault.ReadFault) × Appends held now []

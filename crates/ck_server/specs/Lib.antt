@@ -1,9 +1,9 @@
 -- what a conversation took, marked and wrote
 pub mod Conversations
--- how it ends or breaks off
-pub mod Outcomes
--- what it comes to where the bytes are whole requests and no device fails
+-- what is answered where the bytes are whole requests and no device fails
 pub mod Completeness
+-- how a conversation ends or breaks off
+pub mod Outcomes
 -- which calls may be served
 pub mod Askable
 -- what a reply takes of its call

@@ -1,5 +1,5 @@
 -- How a request is marked and answered, step by step.
-use Rattle.std.specs.Prelude.{◌≡◌, ◌⊎◌, ◌<◌, ◌^◌, ℕ, Bool, List, [], ◌∷◌, ◌++◌, length, Option, None, Some, Result, Ok, Err}
+use Rattle.std.specs.Prelude.{◌≡◌, ◌⊎◌, ◌<◌, ℕ, Bool, List, [], ◌∷◌, ◌++◌, Option, None, Some, Result, Ok, Err}
 use Rattle.std.specs.Io.KnownBytes.{Appends}
 use Rattle.ck_devices.specs.Fronts.{WritesFront}
 use Rattle.board_model.specs.Parts.{MayBeAsked}
@@ -18,7 +18,7 @@ use Rattle.talk_model.specs.declared.wants.Want.{Want}
 use Rattle.talk_model.specs.declared.ends.TalkFaultKind.{TalkFaultKind}
 use Rattle.talk_model.specs.declared.ends.TalkFaultKind.TheVariants.{ReadFault, WriteFault, NoMemory}
 use Rattle.talk_model.specs.Requests.{want_of}
-use Rattle.talk_model.specs.Given.{Given, given_of, draws_in}
+use Rattle.talk_model.specs.Given.{Given, given_of, draws_by}
 use Rattle.talk_model.specs.Calls.{Step, asks, replies, lock_of_zone, scope_of}
 use Rattle.ck_server.specs.declared.serving.Served.{Served}
 use Rattle.ck_server.specs.declared.serving.Served.TheVariants.{Answered, NotBuilt}
@@ -104,4 +104,4 @@ Refuses number g held now old new text (Err NoMemory) = Appends held now [] × (
 
 -- one request was given this moment, and its words in turn
 abbrev pub GaveOne : {R : Type 0} → ℕ → (R → Result (List ℕ) Failed → R → Type 0) → R → R → List Given → Type 0
-GaveOne moment draws r r2 given = (g : Given) × (given ≡ g ∷ []) × (g.moment ≡ moment) × GivesInTurn draws r (draws_in g) r2
+GaveOne moment draws r r2 given = (g : Given) × (given ≡ g ∷ []) × (g.moment ≡ moment) × GivesInTurn draws r (draws_by g.words g.drawn) r2

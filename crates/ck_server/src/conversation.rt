@@ -1,8 +1,6 @@
 // A conversation over one connection.
-ghost use Rattle.std.specs.Prelude.{◌≤◌};
 ghost use Rattle.talk_model.specs.Given.{Draws, GaveFor};
-ghost use Rattle.ck_server.specs.Outcomes.{marks_of, outcome_of};
-ghost use Rattle.ck_server.specs.Completeness.{Converses};
+ghost use Rattle.ck_server.specs.Outcomes.{Converses, marks_of, outcome_of};
 
 use crate::sending::finish;
 use crate::serving::{Served, serve_request};
@@ -16,7 +14,8 @@ use zone_board::Board;
 /// Answers the requests of a source to a sink, one after another, until the source ends, a request
 /// asks to close, the bytes are none of a request, a request has a form that is not built, or as
 /// many were answered as a connection may have. Where the bytes can be no request, the last reply
-/// says so. A fault of the source or the sink, and want of memory, break the conversation off.
+/// says so. A fault of the source or the sink, and want of memory, break the conversation off: no use
+/// that failed is tried again.
 ///
 /// Where the source has whole requests to its end and neither device fails, they are answered, up to
 /// one that asks to close or whose form is not built and as many as a connection may have, unless
@@ -37,8 +36,6 @@ pub fn converse<B: Board, S: Source, W: Sink, C: Clock, R: Words>(
         (record { left = S.left source.old; source_faults = S.fault_count source.old; held = W.held sink.old; sink_faults = W.fault_count sink.old; board = B.state board.old })
         (record { left = S.left source.new; source_faults = S.fault_count source.new; held = W.held sink.new; sink_faults = W.fault_count sink.new; board = B.state board.new })
         (marks_of result) (outcome_of result) }
-    ensures read_later { S.fault_count source.old ≤ S.fault_count source.new }
-    ensures written_later { W.fault_count sink.old ≤ W.fault_count sink.new }
 {
     board.hold_legal();
     let mut marks = Vec::new(alloc);

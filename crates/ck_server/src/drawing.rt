@@ -1,8 +1,9 @@
 // Drawing random words for a request.
-ghost use Rattle.std.specs.Prelude.{◌≡◌, [], true, IfOk, OnErr, length};
+ghost use Rattle.std.specs.Prelude.{◌≡◌, ◌<◌, [], true, IfOk, OnErr, MatchBool, length};
 ghost use Rattle.ck_devices.specs.Runs.{GivesInTurn};
 ghost use Rattle.wire_calls.specs.Meant.{IsMeantCall};
-ghost use Rattle.talk_model.specs.Given.{draws_by, Draws, AreSoMany, words_of_call};
+ghost use Rattle.talk_model.specs.declared.wants.Want.TheVariants.{Called};
+ghost use Rattle.talk_model.specs.Given.{draws_by, Draws, words_of};
 
 use board_model::Word;
 use ck_base::NoMemory;
@@ -21,7 +22,7 @@ pub(crate) struct Drawn {
 // How many words a call draws.
 pub(crate) fn words_of(call: &Call) -> usize
     requires { IsMeantCall call.now }
-    ensures { result ≡ words_of_call call.now }
+    ensures { result ≡ words_of (Called call.now) }
 {
     match call {
         Call::Modify(call) => words_drawn(call.ops.as_slice()),
@@ -47,7 +48,7 @@ pub(crate) fn draw_words<R: Words>(
     count: usize,
 ) -> Result<Drawn, NoMemory>
     ensures drew { IfOk result (λ d. GivesInTurn (Draws R.gives R.fault_count) words.old (draws_by d.words.items d.drawn) words.new) }
-    ensures many { IfOk result (λ d. AreSoMany d.drawn count (length d.words.items)) }
+    ensures many { IfOk result (λ d. MatchBool d.drawn (length d.words.items ≡ count) (length d.words.items < count)) }
     ensures none { OnErr result (words.new ≡ words.old) }
 {
     let mut drawn = Vec::with_capacity(alloc, count)?;

@@ -1,10 +1,11 @@
 // What is wanted of a request.
 ghost use Rattle.std.specs.Prelude.{◌≡◌, IfOk, Ok};
 ghost use Rattle.ck_base.specs.Told.{IsToldUnless};
+ghost use Rattle.http_front.specs.Callers.{caller_of};
 ghost use Rattle.http_front.specs.Routes.{route_of};
 ghost use Rattle.wire_calls.specs.Calls.{call_of};
 ghost use Rattle.wire_calls.specs.Meant.{IsMeantCall};
-ghost use Rattle.talk_model.specs.Requests.{sender_with, sender_at, sender_in, json_of, want_of_call, want_by, want_of};
+ghost use Rattle.talk_model.specs.Requests.{sender_with, sender_in, json_of, want_of_call, want_by, want_of};
 ghost use Rattle.ck_server.specs.Askable.{MayBeServed};
 
 use crate::built::{is_built, is_built_route};
@@ -21,7 +22,7 @@ fn sender_with(
     route: Route,
     target: &[u8],
 ) -> Result<Result<Sender, ServerError>, NoMemory>
-    ensures { IfOk result (λ found. found ≡ sender_at users.now target.now (Ok route)) }
+    ensures { IfOk result (λ found. found ≡ sender_with route (caller_of users.now target.now)) }
 {
     match caller_of(alloc, users, target) {
         Ok(user) => Ok(Ok(Sender { route, user })),

@@ -35,7 +35,7 @@ pub record ReadsOn (left now : Option (List ℕ)) (old new : List ℕ) : Type 0 
   pub grown : new ≡ old ++ taken
   pub ahead : ReadsNoFurther old taken
 
--- The last piece came where the bytes were unfinished: no more was read than it took to see what stands at their front.
+-- The last piece came where the bytes were unfinished: but for the rest of that piece, no more was read than it took to see what stands at their front.
 pub record HasLastPiece (bytes : List ℕ) : Type 0 where
   pub front : List ℕ
   pub piece : List ℕ

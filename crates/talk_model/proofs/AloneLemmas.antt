@@ -1,31 +1,24 @@
 -- One more request of a board that nobody else asks.
-use Rattle.std.proofs.Common.{◌≡◌, ◌≢◌, ℕ, List, [], ◌∷◌, ◌++◌, length, refl, sym, ap, ◌∙◌, append_assoc, arith, inl, inr}
-use Rattle.std.proofs.lemmas.List.{append-nil}
+use Rattle.std.proofs.Common.{◌≡◌, ◌≢◌, ℕ, List, [], ◌∷◌, ◌++◌, refl, sym, ap, ◌∙◌, inl, inr}
 use Rattle.std.proofs.lemmas.Bool.Decides.{eqb_tells}
 use Rattle.zone_model.specs.declared.events.Event.{Event}
 use Rattle.zone_model.specs.Histories.{Histories}
 use Rattle.talk_model.specs.Requests.{Meaning}
 use Rattle.talk_model.specs.Given.{Given}
-use Rattle.talk_model.specs.Calls.{Ask, step_for}
-use Rattle.talk_model.specs.Alone.{Storing, made_alone, after_ask, after_step, text_alone, after_all, alone_text}
+use Rattle.talk_model.specs.Calls.{Ask, step_for, text_of}
+use Rattle.talk_model.specs.Alone.{Storing, made_alone, after_ask, run_step, after_all, replies_alone}
 
 module _ (storing : Storing) where
-  pub after_all-snoc : (h : Histories Event) (ws : List Meaning) (given : List Given) (w : Meaning) (g : Given) → length ws ≡ length given
-      → after_all storing h (ws ++ w ∷ []) (given ++ g ∷ []) ≡ after_step storing (step_for w.want g) (after_all storing h ws given)
-  after_all-snoc h [] [] w g e = refl
-  after_all-snoc h [] (m ∷ given) w g e = absurd (omega (arith, e))
-  after_all-snoc h (v ∷ ws) [] w g e = absurd (omega (arith, e))
-  after_all-snoc h (v ∷ ws) (m ∷ given) w g e = after_all-snoc (after_step storing (step_for v.want m) h) ws given w g (omega (arith, e))
+  pub after_all-snoc : (h : Histories Event) (asked : List (Meaning × Given)) (w : Meaning) (g : Given) → after_all storing h (asked ++ (w, g) ∷ []) ≡ (run_step storing (after_all storing h asked) (step_for w.want g)).0
+  after_all-snoc h [] w g = refl
+  after_all-snoc h ((v, f) ∷ asked) w g = after_all-snoc (run_step storing h (step_for v.want f)).0 asked w g
 
-  pub alone_text-snoc : (h : Histories Event) (ws : List Meaning) (given : List Given) (w : Meaning) (g : Given) → length ws ≡ length given
-      → alone_text storing h (ws ++ w ∷ []) (given ++ g ∷ []) ≡ alone_text storing h ws given ++ text_alone storing (after_all storing h ws given) w g
-  alone_text-snoc h [] [] w g e = append-nil (text_alone storing h w g)
-  alone_text-snoc h [] (m ∷ given) w g e = absurd (omega (arith, e))
-  alone_text-snoc h (v ∷ ws) [] w g e = absurd (omega (arith, e))
-  alone_text-snoc h (v ∷ ws) (m ∷ given) w g e =
-      let next = after_step storing (step_for v.want m) h in
-      ap (λ t. text_alone storing h v m ++ t) (alone_text-snoc next ws given w g (omega (arith, e)))
-      ∙ sym (append_assoc (text_alone storing h v m) (alone_text storing next ws given) (text_alone storing (after_all storing next ws given) w g))
+  pub replies-snoc : (h : Histories Event) (asked : List (Meaning × Given)) (w : Meaning) (g : Given)
+      → replies_alone storing h (asked ++ (w, g) ∷ []) ≡ replies_alone storing h asked ++ text_of w.close (run_step storing (after_all storing h asked) (step_for w.want g)).1 ∷ []
+  replies-snoc h [] w g = refl
+  replies-snoc h ((v, f) ∷ asked) w g =
+      let end = run_step storing h (step_for v.want f) in
+      ap (λ t. text_of v.close end.1 ∷ t) (replies-snoc end.0 asked w g)
 
   -- what an ask leaves at each lock
   pub ask_leaves : (old new : Histories Event) (a : Ask) → new a.lock ≡ old a.lock ++ made_alone storing old a → ((k : ℕ) → k ≢ a.lock → new k ≡ old k) → (k : ℕ) → new k ≡ after_ask storing old a k

@@ -1,5 +1,5 @@
 -- The requests at the front of bytes, and the end behind them, are determined by the bytes.
-use Rattle.std.proofs.Common.{◌≡◌, ℕ, ◌<◌, false, List, [], ◌∷◌, ◌++◌, length, refl, sym, ap, subst, ◌∙◌, arith, append_assoc, append-nil, length-append, None, Some, Result, Ok, Err}
+use Rattle.std.proofs.Common.{◌≡◌, ℕ, ◌<◌, true, false, List, [], ◌∷◌, ◌++◌, length, refl, sym, ap, subst, ◌∙◌, arith, append_assoc, append-nil, length-append, None, Some, Result, Ok, Err}
 use Rattle.std.specs.List.{AllZip, concat}
 use Rattle.std.proofs.lemmas.List.{append_cancel_left}
 use Rattle.http_front.specs.declared.faults.FrontFault.{FrontFault}
@@ -11,9 +11,8 @@ use Rattle.http_front.proofs.LawLemmas.{say_one, cut_one, wait_unsaid, stay_said
 use Rattle.http_front.specs.Users.{Table}
 use Rattle.talk_model.specs.declared.ends.End.{End}
 use Rattle.talk_model.specs.declared.ends.End.TheVariants.{Closed, CloseAsked, Cut, BadHead, HeadTooLong, NoLength, BodyTooLong, Spent, NotBuilt}
-use Rattle.talk_model.specs.declared.wants.Want.{Want}
-use Rattle.talk_model.specs.Requests.{Meaning, want_of, Wants, IsUnbuilt}
-use Rattle.talk_model.specs.Connections.{most_requests, GoOn, AreOpen, AreClosing, LeavesAt, AreRequests}
+use Rattle.talk_model.specs.Requests.{Meaning, meaning_of, Wants, HasInFront}
+use Rattle.talk_model.specs.Connections.{most_requests, GoOn, AreOpen, IsLastOf, LeavesAt, AreRequests}
 
 -- the end of a connection whose bytes are refused with this fault
 abbrev end_of : FrontFault → End
@@ -23,12 +22,16 @@ end_of fault.NoLength = NoLength
 end_of fault.BodyTooLong = BodyTooLong
 end_of _ = Closed
 
+-- the last one asked to close
+abbrev AreClosing : List Meaning → Type 0
+AreClosing ws = (last : Meaning) × IsLastOf ws last × (last.close ≡ true)
+
 -- what stands behind requests at an end at which a further one might have come
 data Behind (t : Table) (rest : List ℕ) (end : End) : Type 0 where
   nothing : end ≡ Closed → rest ≡ [] → Behind t rest end
   cut : end ≡ Cut → 0 < length rest → IsUnfinished rest → Behind t rest end
   refused : (f : FrontFault) → end ≡ end_of f → IsRefused rest f → Behind t rest end
-  unbuilt : end ≡ NotBuilt → IsUnbuilt t rest → Behind t rest end
+  unbuilt : end ≡ NotBuilt → HasInFront t rest None → Behind t rest end
 
 data Leaves (t : Table) (ws : List Meaning) (rest : List ℕ) (end : End) : Type 0 where
   are_open : AreOpen ws → Behind t rest end → Leaves t ws rest end
@@ -56,8 +59,8 @@ go_on-last (w ∷ before) last all = go_on-last before last all.1
 
 not_going : (ws : List Meaning) → GoOn ws → AreClosing ws → ⊥
 not_going ws all c =
-    let e : c.last.close ≡ false = go_on-last c.before c.last (subst GoOn c.parts all) in
-    let k = c.closes in absurd (cc)
+    let e : (c.0).close ≡ false = go_on-last (c.1).before c.0 (subst GoOn (c.1).parts all) in
+    let k = c.2 in absurd (cc)
 
 -- a front of closing ones goes on
 closing-front : (before : List Meaning) (w : Meaning) (after last_before : List Meaning) (last : Meaning) → before ++ w ∷ after ≡ last_before ++ last ∷ [] → AreOpen last_before
@@ -97,18 +100,18 @@ module _ (t : Table) where
   same_behind rest e f (nothing p r) (nothing q s) = p ∙ sym q
   same_behind rest e f (nothing p r) (cut q some s) = absurd (nothing_not_cut rest r some)
   same_behind rest e f (nothing p r) (refused g q s) = absurd (wait_unsaid rest (Err g) s (nothing_waits rest r))
-  same_behind rest e f (nothing p r) (unbuilt q s) = absurd (wait_unsaid rest (Ok s.request) s.has (nothing_waits rest r))
+  same_behind rest e f (nothing p r) (unbuilt q s) = absurd (wait_unsaid rest (Ok s.0) s.1 (nothing_waits rest r))
   same_behind rest e f (cut p some r) (nothing q s) = absurd (nothing_not_cut rest s some)
   same_behind rest e f (cut p some r) (cut q more s) = p ∙ sym q
   same_behind rest e f (cut p some r) (refused g q s) = absurd (wait_unsaid rest (Err g) s r)
-  same_behind rest e f (cut p some r) (unbuilt q s) = absurd (wait_unsaid rest (Ok s.request) s.has r)
+  same_behind rest e f (cut p some r) (unbuilt q s) = absurd (wait_unsaid rest (Ok s.0) s.1 r)
   same_behind rest e f (refused g p r) (nothing q s) = absurd (wait_unsaid rest (Err g) r (nothing_waits rest s))
   same_behind rest e f (refused g p r) (cut q some s) = absurd (wait_unsaid rest (Err g) r s)
   same_behind rest e f (refused g p r) (refused h q s) = p ∙ (ap end_of (err_is g h (say_one rest (Err g) (Err h) r s)) ∙ sym q)
-  same_behind rest e f (refused g p r) (unbuilt q s) = absurd (not_both s.request g (say_one rest (Ok s.request) (Err g) s.has r))
-  same_behind rest e f (unbuilt p r) (nothing q s) = absurd (wait_unsaid rest (Ok r.request) r.has (nothing_waits rest s))
-  same_behind rest e f (unbuilt p r) (cut q some s) = absurd (wait_unsaid rest (Ok r.request) r.has s)
-  same_behind rest e f (unbuilt p r) (refused g q s) = absurd (not_both r.request g (say_one rest (Ok r.request) (Err g) r.has s))
+  same_behind rest e f (refused g p r) (unbuilt q s) = absurd (not_both s.0 g (say_one rest (Ok s.0) (Err g) s.1 r))
+  same_behind rest e f (unbuilt p r) (nothing q s) = absurd (wait_unsaid rest (Ok r.0) r.1 (nothing_waits rest s))
+  same_behind rest e f (unbuilt p r) (cut q some s) = absurd (wait_unsaid rest (Ok r.0) r.1 s)
+  same_behind rest e f (unbuilt p r) (refused g q s) = absurd (not_both r.0 g (say_one rest (Ok r.0) (Err g) r.1 s))
   same_behind rest e f (unbuilt p r) (unbuilt q s) = p ∙ sym q
 
   same_end : (ws : List Meaning) (rest : List ℕ) (e f : End) → Leaves t ws rest e → Leaves t ws rest f → e ≡ f
@@ -128,31 +131,31 @@ module _ (t : Table) where
     few = omega (arith, a.few, length-append before (w ∷ after));
     go_on = go_on-front before (w ∷ after) a.go_on;
   }
-  open_before before w after rest e (closing p c) = closing-front before w after c.before c.last c.parts c.open_before
+  open_before before w after rest e (closing p c) = closing-front before w after (c.1).before c.0 (c.1).parts (c.1).open_before
   open_before before w after rest e (spent p n all) = record {
     few = omega (arith, n, length-append before (w ∷ after));
     go_on = go_on-front before (w ∷ after) all;
   }
 
   -- a request that stands at the front of bytes
-  abbrev has_front : (bytes after rest : List ℕ) (w : Meaning) → (k : Wants t bytes w) → rest ≡ bytes ++ after → HasRequest rest k.request
-  has_front bytes after rest w k is = record { front = bytes; rest = after; parts = is; is = k.is }
+  abbrev has_front : (bytes after rest : List ℕ) (w : Meaning) → (k : Wants t bytes w) → rest ≡ bytes ++ after → HasRequest rest k.0
+  has_front bytes after rest w k is = record { front = bytes; rest = after; parts = is; is = k.1 }
 
-  some_is_none : (w : Want) → None ≡ Some w → ⊥
+  some_is_none : (w : Meaning) → None ≡ Some w → ⊥
   some_is_none w e = cc
 
   -- where a further request stands, the bytes did not end there
   none_left : (before : List Meaning) (e : End) (bytes after rest : List ℕ) (w : Meaning) → AreOpen before → Wants t bytes w → rest ≡ bytes ++ after → Leaves t before rest e → ⊥
-  none_left before e bytes after rest w o k is (are_open a (nothing p r)) = wait_unsaid rest (Ok k.request) (has_front bytes after rest w k is) (nothing_waits rest r)
-  none_left before e bytes after rest w o k is (are_open a (cut p some r)) = wait_unsaid rest (Ok k.request) (has_front bytes after rest w k is) r
-  none_left before e bytes after rest w o k is (are_open a (refused g p r)) = not_both k.request g (say_one rest (Ok k.request) (Err g) (has_front bytes after rest w k is) r)
+  none_left before e bytes after rest w o k is (are_open a (nothing p r)) = wait_unsaid rest (Ok k.0) (has_front bytes after rest w k is) (nothing_waits rest r)
+  none_left before e bytes after rest w o k is (are_open a (cut p some r)) = wait_unsaid rest (Ok k.0) (has_front bytes after rest w k is) r
+  none_left before e bytes after rest w o k is (are_open a (refused g p r)) = not_both k.0 g (say_one rest (Ok k.0) (Err g) (has_front bytes after rest w k is) r)
   none_left before e bytes after rest w o k is (are_open a (unbuilt p r)) =
-      let same : r.request ≡ k.request = ok_is r.request k.request (say_one rest (Ok r.request) (Ok k.request) r.has (has_front bytes after rest w k is)) in
-      some_is_none w.want (sym r.want ∙ (ap (want_of t) same ∙ k.want))
+      let same : r.0 ≡ k.0 = ok_is r.0 k.0 (say_one rest (Ok r.0) (Ok k.0) r.1 (has_front bytes after rest w k is)) in
+      some_is_none w (sym r.2 ∙ (ap (meaning_of t) same ∙ k.2))
   none_left before e bytes after rest w o k is (closing p c) = not_going before o.go_on c
   none_left before e bytes after rest w o k is (spent p n all) = omega (arith, o.few, n)
 
-  some_is : (v w : Want) → Some v ≡ Some w → v ≡ w
+  some_is : (v w : Meaning) → Some v ≡ Some w → v ≡ w
   some_is v w e = cc
 
   -- at the front of bytes stands one request, of which one thing is wanted
@@ -160,10 +163,8 @@ module _ (t : Table) where
   one_request r s after others all v w k l left right =
       let x = has_front r after all v k left in
       let y = has_front s others all w l right in
-      let same : k.request ≡ l.request = ok_is k.request l.request (say_one all (Ok k.request) (Ok l.request) x y) in
-      let close : v.close ≡ w.close = k.close ∙ (ap (λ (q : Request). q.close) same ∙ sym l.close) in
-      let want : v.want ≡ w.want = some_is v.want w.want (sym k.want ∙ (ap (want_of t) same ∙ l.want)) in
-      ((λ i. record { close = close i; want = want i }), cut_one all k.request l.request x y)
+      let same : k.0 ≡ l.0 = ok_is k.0 l.0 (say_one all (Ok k.0) (Ok l.0) x y) in
+      (some_is v w (sym k.2 ∙ (ap (meaning_of t) same ∙ l.2)), cut_one all k.0 l.0 x y)
 
   module _ (e f : End) where
     same : (before : List Meaning) (rs ss : List (List ℕ)) (vs ws : List Meaning) (p q : List ℕ) → AllZip (Wants t) rs vs → AllZip (Wants t) ss ws
@@ -204,8 +205,8 @@ module _ (t : Table) where
     leaves = stays a.rest a.leaves;
   }
 
-  pub unbuilt_more : (bytes after : List ℕ) → IsUnbuilt t bytes → IsUnbuilt t (bytes ++ after)
-  unbuilt_more bytes after u = record { request = u.request; has = stay_said bytes after (Ok u.request) u.has; want = u.want }
+  pub unbuilt_more : (bytes after : List ℕ) → HasInFront t bytes None → HasInFront t (bytes ++ after) None
+  unbuilt_more bytes after u = (u.0, stay_said bytes after (Ok u.0) u.1, u.2)
 
   pub close_asked_more : (bytes after : List ℕ) (ws : List Meaning) → AreRequests t bytes ws CloseAsked → AreRequests t (bytes ++ after) ws CloseAsked
   close_asked_more bytes after ws a = more CloseAsked bytes after ws (λ rest l. l) a

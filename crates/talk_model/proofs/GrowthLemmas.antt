@@ -1,11 +1,11 @@
 -- What stays as it is while histories grow.
-use Rattle.std.proofs.Common.{◌≡◌, ℕ, suc, ◌-◌, ◌≤◌, ◌==◌, Bool, true, false, List, [], ◌∷◌, ◌++◌, length, take, drop, refl, sym, ap, subst, ◌∙◌, arith, append_assoc, length-append}
+use Rattle.std.proofs.Common.{◌≡◌, ℕ, ◌+◌, ◌-◌, ◌≤◌, ◌==◌, Bool, true, false, List, [], ◌∷◌, ◌++◌, length, take, drop, map, refl, sym, ap, subst, ◌∙◌, arith, append_assoc, length-append}
 use Rattle.std.specs.Prelude.{if◌then◌else◌}
-use Rattle.std.specs.List.{AllByRecursion}
+use Rattle.std.specs.List.{AllByRecursion, flat_map}
 use Rattle.std.proofs.lemmas.List.{take-append-le, append-nil}
-use Rattle.std.proofs.lemmas.Bool.{eqb-true}
 use Rattle.zone_model.specs.declared.events.Event.{Event}
 use Rattle.zone_model.specs.Histories.{Histories, IsFront, Grows}
+use Rattle.zone_model.specs.Events.{own_of}
 use Rattle.board_model.specs.declared.answers.Answer.{Answer}
 use Rattle.board_model.specs.Asks.{sight, answer, made, makes, commits_by, told}
 use Rattle.board_model.specs.Turns.{BoardState}
@@ -13,8 +13,8 @@ use Rattle.talk_model.specs.declared.marks.At.{At}
 use Rattle.talk_model.specs.declared.marks.Mark.{Mark}
 use Rattle.talk_model.specs.Requests.{Meaning}
 use Rattle.talk_model.specs.Given.{given_of}
-use Rattle.talk_model.specs.Calls.{Ask, Step, asks, replies, step_for, text_at, IsReply}
-use Rattle.talk_model.specs.Marks.{IsLater, base_of, event_at, answer_at, step_at, IsAtOf, AreAtsOf, step_behind, IsMarkOf, AreMarksOf, marked_by, marked}
+use Rattle.talk_model.specs.Calls.{Ask, Step, asks, replies, step_for, text_at}
+use Rattle.talk_model.specs.Marks.{IsLater, base_of, event_at, answer_at, step_at, IsAtOf, AreAtsOf, step_behind, IsMarkOf, AreMarksOf, asks_at}
 use Rattle.talk_model.specs.Talk.{talk}
 
 pub front_on : {E : Type 0} (xs ys zs : List E) → IsFront xs ys → IsFront ys zs → IsFront xs zs
@@ -47,6 +47,32 @@ later_on a b c p q = record {
 front-drop : {E : Type 0} (n k : ℕ) (xs ys : List E) → IsFront xs ys → n ≤ length xs → drop k (take n ys) ≡ drop k (take n xs)
 front-drop n k xs ys p le = ap (drop k) (front-take n xs ys p le)
 
+-- ---- the asks of one lock
+
+-- the events at a lock that the asks made
+abbrev pub marked : ℕ → Histories Event → List At → List Event
+marked lock h ats = flat_map (event_at h) (asks_at lock ats)
+
+abbrev pub marked_by : ℕ → Histories Event → At → List Event
+marked_by lock h at = if at.lock == lock then event_at h at else []
+
+pub marked-cons : (lock : ℕ) (h : Histories Event) (at : At) (ats : List At) → marked lock h (at ∷ ats) ≡ marked_by lock h at ++ marked lock h ats
+marked-cons lock h at ats = by_lock (at.lock == lock) (asks_at lock ats)
+  where
+    by_lock : (b : Bool) (here : List At) → flat_map (event_at h) (if b then at ∷ here else here) ≡ (if b then event_at h at else []) ++ flat_map (event_at h) here
+    by_lock true here = refl
+    by_lock false here = refl
+
+-- the lengths of the asks of the lock
+abbrev pub lengths_at : ℕ → List At → List ℕ
+lengths_at lock ats = map (λ (at : At). at.len) (asks_at lock ats)
+
+abbrev pub TurnsAreMarked : BoardState → BoardState → List At → Type 0
+TurnsAreMarked entry now ats = (lock : ℕ) → now.turns lock ≡ entry.turns lock ++ lengths_at lock ats
+
+abbrev pub OwnAreMarked : BoardState → BoardState → List At → Type 0
+OwnAreMarked entry now ats = (lock : ℕ) → own_of (now.seats lock) (drop (length (entry.histories lock)) (now.histories lock)) ≡ marked lock now.histories ats
+
 module _ (entry b now : BoardState) (later : IsLater b now) where
   abbrev h : Histories Event
   h = b.histories
@@ -69,7 +95,6 @@ module _ (entry b now : BoardState) (later : IsLater b now) where
         sits = later.stays at.lock k.seat k.sits;
         lock = k.lock;
         since_entry = k.since_entry;
-        past_entry = k.past_entry;
         within = omega (arith, k.within, front-length (h at.lock) (h2 at.lock) (later.grown at.lock));
         event = k.event ∙ ap (λ (es : List Event). makes (commits_by a.lock es a.part)) (sym same);
         event_is = front-take at.len (h at.lock) (h2 at.lock) (later.grown at.lock) k.within
@@ -103,16 +128,21 @@ module _ (entry b now : BoardState) (later : IsLater b now) where
   marks-grown number [] [] k = tt
   marks-grown number [] (w ∷ ws) k = k
   marks-grown number (m ∷ marks) [] k = k
-  marks-grown number (m ∷ marks) (w ∷ ws) k = (mark-grown number m w k.0, subst IsReply (sym (behind-grown number m w k.0)) k.1, marks-grown (suc number) marks ws k.2)
+  marks-grown number (m ∷ marks) (w ∷ ws) k =
+      let mark = k.0 in
+      ((mark-grown number m w mark.0, mark.1, behind-grown number m w mark.0 ∙ mark.2), marks-grown (number + 1) marks ws k.1)
 
   pub talk-grown : (number : ℕ) (marks : List Mark) (ws : List Meaning) → AreMarksOf number entry b marks ws → talk ws marks h2 ≡ talk ws marks h
   talk-grown number [] [] k = refl
   talk-grown number [] (w ∷ ws) k = refl
   talk-grown number (m ∷ marks) [] k = refl
   talk-grown number (m ∷ marks) (w ∷ ws) k =
-      let same = behind-grown number m w k.0 in
-      λ i. text_at w.close (same i) ++ talk-grown (suc number) marks ws k.2 i
+      let mark = k.0 in
+      let same = behind-grown number m w mark.0 in
+      λ i. text_at w.close (same i) ∷ talk-grown (number + 1) marks ws k.1 i
 
   pub marked-grown : (lock : ℕ) (ats : List At) → AllByRecursion (λ (at : At). at.len ≤ length (h at.lock)) ats → marked lock h2 ats ≡ marked lock h ats
   marked-grown lock [] k = refl
-  marked-grown lock (at ∷ ats) k = λ i. (if at.lock == lock then event-grown at k.0 i else []) ++ marked-grown lock ats k.1 i
+  marked-grown lock (at ∷ ats) k =
+      marked-cons lock h2 at ats
+      ∙ ((λ i. (if at.lock == lock then event-grown at k.0 i else []) ++ marked-grown lock ats k.1 i) ∙ sym (marked-cons lock h at ats))

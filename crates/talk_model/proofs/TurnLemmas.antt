@@ -13,14 +13,13 @@ use Rattle.zone_model.specs.Histories.{Histories, IsFront, Grows}
 use Rattle.zone_model.specs.Events.{origin_of, own, own_of}
 use Rattle.board_model.specs.declared.parts.Part.{Part}
 use Rattle.board_model.specs.declared.answers.Answered.{Answered}
-use Rattle.board_model.specs.declared.answers.Answer.{Answer}
 use Rattle.board_model.specs.Asks.{Append, stored, failed, sight, answer, event_of, made, makes, commits_by, append_in, told}
-use Rattle.board_model.specs.Turns.{BoardState, HadTurn, HadAsk, IsAsked}
+use Rattle.board_model.specs.Turns.{BoardState, HadTurn, IsAsked}
 use Rattle.talk_model.specs.declared.marks.At.{At}
-use Rattle.talk_model.specs.Marks.{IsLater, base_of, event_at, answer_at, IsAtOf, NotBefore, marked_by, marked, OwnAreMarked, lengths_at, TurnsAreMarked}
+use Rattle.talk_model.specs.Marks.{IsLater, base_of, event_at, answer_at, IsAtOf, NotBefore}
 use Rattle.talk_model.specs.Calls.{Ask}
 use Rattle.talk_model.specs.Alone.{Storing, WentSo, made_alone, answer_alone}
-use Rattle.talk_model.proofs.GrowthLemmas.{front-length, marked-grown}
+use Rattle.talk_model.proofs.GrowthLemmas.{front-length, marked, marked_by, lengths_at, OwnAreMarked, TurnsAreMarked, marked-grown}
 use Rattle.talk_model.proofs.MarkLemmas.{marked-snoc, lengths_at-snoc}
 
 own-append : (n : ℕ) (xs ys : List Event) → own n (xs ++ ys) ≡ own n xs ++ own n ys
@@ -171,7 +170,6 @@ module _ (old new : BoardState) (lock : ℕ) where
           sits = t.sits;
           lock = refl;
           since_entry = omega (arith, room, entered);
-          past_entry = one_more (length (entry.histories lock)) entered;
           within = omega (arith, k.len);
           event = k.event ∙ ap (λ b. makes (commits_by lock b part)) (sym base-asked);
           event_is = take_all answered.len (h2 lock) (omega (arith, k.len)) ∙ (new_is ∙ ap (λ (b : List Event). b ++ made (k.had).append lock t.seat b part) (sym base-asked));

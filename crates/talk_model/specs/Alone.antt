@@ -37,25 +37,16 @@ module _ (storing : Storing) where
   after_asks (suc n) h (replies r) = h
 
   -- the histories after all of them, and the reply
-  abbrev pub after_step : Step → Histories Event → Histories Event
-  after_step (asks a next) h = after_step (next (answer_alone h a)) (after_ask h a)
-  after_step (replies r) h = h
+  abbrev pub run_step : Histories Event → Step → Histories Event × Reply
+  run_step h (asks a next) = run_step (after_ask h a) (next (answer_alone h a))
+  run_step h (replies r) = (h, r)
 
-  abbrev pub reply_alone : Step → Histories Event → Reply
-  reply_alone (asks a next) h = reply_alone (next (answer_alone h a)) (after_ask h a)
-  reply_alone (replies r) h = r
+  -- the histories after requests, each with what was given for it
+  abbrev pub after_all : Histories Event → List (Meaning × Given) → Histories Event
+  after_all h [] = h
+  after_all h ((w, g) ∷ asked) = after_all (run_step h (step_for w.want g)).0 asked
 
-  -- the histories after requests for which these were given
-  abbrev pub after_all : Histories Event → List Meaning → List Given → Histories Event
-  after_all h [] given = h
-  after_all h (w ∷ ws) [] = h
-  after_all h (w ∷ ws) (g ∷ given) = after_all (after_step (step_for w.want g) h) ws given
-
-  -- the reply to a request for which this was given, and to requests one after another
-  abbrev pub text_alone : Histories Event → Meaning → Given → List ℕ
-  text_alone h w g = text_of w.close (reply_alone (step_for w.want g) h)
-
-  abbrev pub alone_text : Histories Event → List Meaning → List Given → List ℕ
-  alone_text h [] given = []
-  alone_text h (w ∷ ws) [] = []
-  alone_text h (w ∷ ws) (g ∷ given) = text_alone h w g ++ alone_text (after_step (step_for w.want g) h) ws given
+  -- the replies to them
+  abbrev pub replies_alone : Histories Event → List (Meaning × Given) → List (List ℕ)
+  replies_alone h [] = []
+  replies_alone h ((w, g) ∷ asked) = let end = run_step h (step_for w.want g) in text_of w.close end.1 ∷ replies_alone end.0 asked

@@ -1,5 +1,5 @@
 -- What a request asks of the locks, and what is replied, given the answers.
-use Rattle.std.specs.Prelude.{ℕ, Bool, List, [], map, zip, Option, None, Some, if◌then◌else◌, ⊤}
+use Rattle.std.specs.Prelude.{ℕ, Bool, List, [], map, zip, Option, None, Some, if◌then◌else◌}
 use Rattle.serde_json.specs.Written.{compact_text}
 use Rattle.ck_base.specs.Names.{lock_of_names}
 use Rattle.ck_base.specs.declared.key.ZoneKey.{ZoneKey}
@@ -26,6 +26,7 @@ use Rattle.wire_calls.specs.declared.call.Call.{Call}
 use Rattle.wire_calls.specs.declared.call.Call.TheVariants.{Modify, Lookup}
 use Rattle.wire_calls.specs.declared.reply.RecordEntry.{RecordEntry}
 use Rattle.wire_calls.specs.declared.reply.RecordEntry.TheVariants.{There, Gone, Failed, Conflict as InConflict}
+use Rattle.wire_calls.specs.declared.reply.RecordsReply.{RecordsReply}
 use Rattle.wire_calls.specs.declared.reply.Reply.{Reply}
 use Rattle.wire_calls.specs.declared.reply.Reply.TheVariants.{Modify as ModifyReply, Lookup as LookupReply, Refused}
 use Rattle.wire_calls.specs.Replies.{reply_data, reply_status}
@@ -85,24 +86,20 @@ scope_of Private = scope.Private
 scope_of Shared = scope.Shared
 scope_of Public = scope.Private
 
+-- entries of a zone's records
+abbrev pub listing : ZoneKey → Bool → List RecordEntry → RecordsReply
+listing zone numbers entries = record { zone = zone; numbers_as_strings = numbers; entries = entries }
+
 -- a lock has but answers that fit what it was asked, or that its store failed; of the others the reply is that there is no such zone
 abbrev pub modify_reply : ModifyCall → Given → Answer → Reply
-modify_reply c g (answer.Modify outcomes) = ModifyReply (record {
-  zone = c.zone;
-  numbers_as_strings = c.numbers_as_strings;
-  entries = map entry_of (zip (names_of c.ops g.words) outcomes);
-})
+modify_reply c g (answer.Modify outcomes) = ModifyReply (listing c.zone c.numbers_as_strings (map entry_of (zip (names_of c.ops g.words) outcomes)))
 modify_reply c g (answer.Lookup records) = Refused ZoneNotFound
 modify_reply c g answer.NoZone = Refused ZoneNotFound
 modify_reply c g answer.StoreFailed = Refused TryAgainLater
 
 abbrev pub lookup_reply : LookupCall → Answer → Reply
 lookup_reply c (answer.Modify outcomes) = Refused ZoneNotFound
-lookup_reply c (answer.Lookup records) = LookupReply (record {
-  zone = c.zone;
-  numbers_as_strings = c.numbers_as_strings;
-  entries = map (found_entry c.desired_keys) (zip c.names records);
-})
+lookup_reply c (answer.Lookup records) = LookupReply (listing c.zone c.numbers_as_strings (map (found_entry c.desired_keys) (zip c.names records)))
 lookup_reply c answer.NoZone = Refused ZoneNotFound
 lookup_reply c answer.StoreFailed = Refused TryAgainLater
 
@@ -129,8 +126,3 @@ text_of close r = reply_text (reply_status r) (compact_text (reply_data r)) clos
 abbrev pub text_at : Bool → Step → List ℕ
 text_at close (asks a next) = []
 text_at close (replies r) = text_of close r
-
--- there is nothing more to ask
-abbrev pub IsReply : Step → Type 0
-IsReply (asks a next) = ⊥
-IsReply (replies r) = ⊤

@@ -4,7 +4,7 @@ use Rattle.std.specs.List.{list_all}
 use Rattle.talk_model.specs.declared.ends.End.{End}
 use Rattle.http_front.specs.declared.request.Request.{Request}
 use Rattle.http_front.specs.Users.{Table}
-use Rattle.talk_model.specs.Requests.{Meaning, want_of}
+use Rattle.talk_model.specs.Requests.{Meaning, meaning_of}
 use Rattle.talk_model.specs.Connections.{most_requests, AreRequests, last_text}
 use Rattle.talk_model.specs.WholeConnections.{AreWhole, answered, end_behind, IsGoodEnd}
 
@@ -19,6 +19,6 @@ StaysRead end = (t : Table) (bytes more : List ℕ) (w : List Meaning) → AreRe
 -- Where the bytes are whole requests to their end, these are read, up to the end that they have; nothing is written last there; and it is
 -- a good end where the forms of all that a connection may have are built.
 pub record WholeOnesEnd : Type 0 where
-  pub reading : (t : Table) (bytes : List ℕ) (rs : List Request) → AreWhole bytes rs → AreRequests t bytes (answered t rs) (end_behind t rs)
-  pub nothing_last : (t : Table) (rs : List Request) → last_text (end_behind t rs) ≡ []
-  pub good : (t : Table) (rs : List Request) → list_all (λ (r : Request). is_some (want_of t r)) (take most_requests rs) ≡ true → IsGoodEnd (end_behind t rs)
+  pub reading : (t : Table) (bytes : List ℕ) (rs : List Request) → AreWhole bytes rs → AreRequests t bytes (answered t most_requests rs) (end_behind t most_requests rs)
+  pub nothing_last : (t : Table) (rs : List Request) → last_text (end_behind t most_requests rs) ≡ []
+  pub good : (t : Table) (rs : List Request) → list_all (λ (r : Request). is_some (meaning_of t r)) (take most_requests rs) ≡ true → IsGoodEnd (end_behind t most_requests rs)

@@ -1,5 +1,5 @@
 -- The requests that stand at the front of the bytes of a connection, and how it ends.
-use Rattle.std.specs.Prelude.{◌≡◌, ℕ, ◌<◌, true, false, List, [], ◌∷◌, ◌++◌, length, Err}
+use Rattle.std.specs.Prelude.{◌≡◌, ℕ, ◌<◌, true, false, List, [], ◌∷◌, ◌++◌, length, None, Err}
 use Rattle.std.specs.List.{AllByRecursion, AllZip, concat}
 use Rattle.http_front.specs.declared.faults.FrontFault.TheVariants as fault
 use Rattle.http_front.specs.Requests.{HasBadHead, HasLongHead, HasHead, IsUnfinished}
@@ -8,7 +8,7 @@ use Rattle.error_replies.specs.declared.errors.ServerError.TheVariants.{BadReque
 use Rattle.wire_calls.specs.declared.reply.Reply.TheVariants.{Refused}
 use Rattle.talk_model.specs.declared.ends.End.{End}
 use Rattle.talk_model.specs.declared.ends.End.TheVariants.{Closed, CloseAsked, Cut, BadHead, HeadTooLong, NoLength, BodyTooLong, Spent, NotBuilt}
-use Rattle.talk_model.specs.Requests.{Meaning, Wants, IsUnbuilt}
+use Rattle.talk_model.specs.Requests.{Meaning, Wants, HasInFront}
 use Rattle.talk_model.specs.Calls.{text_of}
 
 -- the most requests on one connection
@@ -24,26 +24,24 @@ pub record AreOpen (ws : List Meaning) : Type 0 where
   pub few : length ws < most_requests
   pub go_on : GoOn ws
 
--- the last one asked to close, and none before it
-pub record AreClosing (ws : List Meaning) : Type 0 where
+-- This is the last one, and there might be one before it.
+pub record IsLastOf (ws : List Meaning) (last : Meaning) : Type 0 where
   pub before : List Meaning
-  pub last : Meaning
   pub parts : ws ≡ before ++ last ∷ []
   pub open_before : AreOpen before
-  pub closes : last.close ≡ true
 
 -- What stands behind these requests at each end. Behind one that asked to close, and behind the last that a connection may
 -- have, it may be anything.
 abbrev pub LeavesAt : Table → End → List Meaning → List ℕ → Type 0
 LeavesAt t Closed ws rest = AreOpen ws × (rest ≡ [])
-LeavesAt t CloseAsked ws rest = AreClosing ws
+LeavesAt t CloseAsked ws rest = (last : Meaning) × IsLastOf ws last × (last.close ≡ true)
 LeavesAt t Cut ws rest = AreOpen ws × (0 < length rest) × IsUnfinished rest
 LeavesAt t BadHead ws rest = AreOpen ws × HasBadHead rest
 LeavesAt t HeadTooLong ws rest = AreOpen ws × HasLongHead rest
 LeavesAt t NoLength ws rest = AreOpen ws × HasHead rest (Err fault.NoLength)
 LeavesAt t BodyTooLong ws rest = AreOpen ws × HasHead rest (Err fault.BodyTooLong)
 LeavesAt t Spent ws rest = (length ws ≡ most_requests) × GoOn ws
-LeavesAt t NotBuilt ws rest = AreOpen ws × IsUnbuilt t rest
+LeavesAt t NotBuilt ws rest = AreOpen ws × HasInFront t rest None
 
 -- The bytes are whole requests, of which this is wanted, one after another, and then what stands behind them at this end.
 pub record AreRequests (t : Table) (bytes : List ℕ) (wanted : List Meaning) (end : End) : Type 0 where

@@ -1,17 +1,17 @@
 -- When marks fit requests and what a board tells.
-use Rattle.std.specs.Prelude.{◌≡◌, ℕ, suc, ◌-◌, ◌<◌, ◌≤◌, ◌==◌, true, List, [], ◌∷◌, ◌++◌, length, take, drop, map, Some, filter, if◌then◌else◌, ⊤}
-use Rattle.std.specs.List.{AllByRecursion, flat_map}
+use Rattle.std.specs.Prelude.{◌≡◌, ℕ, ◌+◌, ◌-◌, ◌<◌, ◌≤◌, ◌==◌, true, List, [], ◌∷◌, ◌++◌, length, take, drop, Some, filter, if◌then◌else◌, ⊤}
+use Rattle.std.specs.List.{AllByRecursion, AllZip, enumerate_from, flat_map}
 use Rattle.zone_model.specs.declared.events.Event.{Event}
 use Rattle.zone_model.specs.Histories.{Histories, Grows}
-use Rattle.zone_model.specs.Events.{own_of}
 use Rattle.board_model.specs.declared.answers.Answer.{Answer}
 use Rattle.board_model.specs.Asks.{Append, sight, answer, made, makes, commits_by, told}
 use Rattle.board_model.specs.Turns.{BoardState, TellsFault}
+use Rattle.wire_calls.specs.declared.reply.Reply.{Reply}
 use Rattle.talk_model.specs.declared.marks.At.{At}
 use Rattle.talk_model.specs.declared.marks.Mark.{Mark}
 use Rattle.talk_model.specs.Requests.{Meaning}
 use Rattle.talk_model.specs.Given.{given_of, AreWordsFor}
-use Rattle.talk_model.specs.Calls.{Ask, Step, asks, replies, step_for, IsReply}
+use Rattle.talk_model.specs.Calls.{Ask, Step, asks, replies, step_for}
 
 -- A board later on: its histories have grown, its seats stay, its store's counts of faults have not fallen, and it is as alone as it was.
 pub record IsLater (old new : BoardState) : Type 0 where
@@ -45,8 +45,7 @@ pub record IsAtOf (entry now : BoardState) (at : At) (asked : Ask) : Type 0 wher
   pub append : Append
   pub sits : now.seats at.lock ≡ Some seat
   pub lock : at.lock ≡ asked.lock
-  pub since_entry : length (entry.histories at.lock) ≤ at.len
-  pub past_entry : at.event ≡ true → length (entry.histories at.lock) < at.len
+  pub since_entry : length (entry.histories at.lock) + (if at.event then 1 else 0) ≤ at.len
   pub within : at.len ≤ length (now.histories at.lock)
   pub event : at.event ≡ makes (commits_by asked.lock (base_of now.histories at) asked.part)
   pub event_is : take at.len (now.histories at.lock) ≡ base_of now.histories at ++ made append asked.lock seat (base_of now.histories at) asked.part
@@ -68,12 +67,13 @@ pub record IsMarkOf (number : ℕ) (entry now : BoardState) (m : Mark) (w : Mean
   pub words : AreWordsFor w.want (given_of m)
   pub asks : AreAtsOf entry now m.asks.items (step_for w.want (given_of m))
 
--- one mark for each request, in order, counted from this number, each with all of its asks
+-- a mark with its number tells a request with all of its asks, up to the reply
+abbrev pub IsWholeMarkOf : BoardState → BoardState → ℕ × Mark → Meaning → Type 0
+IsWholeMarkOf entry now m w = IsMarkOf m.0 entry now m.1 w × (reply : Reply) × (step_behind now.histories m.1 w ≡ replies reply)
+
+-- one such mark for each request, in order, counted from this number
 abbrev pub AreMarksOf : ℕ → BoardState → BoardState → List Mark → List Meaning → Type 0
-AreMarksOf number entry now [] [] = ⊤
-AreMarksOf number entry now [] (w ∷ ws) = ⊥
-AreMarksOf number entry now (m ∷ marks) [] = ⊥
-AreMarksOf number entry now (m ∷ marks) (w ∷ ws) = IsMarkOf number entry now m w × IsReply (step_behind now.histories m w) × AreMarksOf (suc number) entry now marks ws
+AreMarksOf number entry now marks wanted = AllZip (IsWholeMarkOf entry now) (enumerate_from number marks) wanted
 
 -- the asks of the marks, in order
 abbrev pub asks_in : List Mark → List At
@@ -88,21 +88,6 @@ abbrev pub AreInOrder : List At → Type 0
 AreInOrder [] = ⊤
 AreInOrder (a ∷ ats) = AllByRecursion (NotBefore a) ats × AreInOrder ats
 
--- the events at a lock that the asks made
-abbrev pub marked_by : ℕ → Histories Event → At → List Event
-marked_by lock h at = if at.lock == lock then event_at h at else []
-
-abbrev pub marked : ℕ → Histories Event → List At → List Event
-marked lock h ats = flat_map (marked_by lock h) ats
-
--- the lengths of the asks of the lock
-abbrev pub lengths_at : ℕ → List At → List ℕ
-lengths_at lock ats = map (λ (at : At). at.len) (filter (λ (at : At). at.lock == lock) ats)
-
--- each lock has had just these asks since entry, answered at these lengths
-abbrev pub TurnsAreMarked : BoardState → BoardState → List At → Type 0
-TurnsAreMarked entry now ats = (lock : ℕ) → now.turns lock ≡ entry.turns lock ++ lengths_at lock ats
-
--- The board's own events beyond those at entry are just those that the asks made.
-abbrev pub OwnAreMarked : BoardState → BoardState → List At → Type 0
-OwnAreMarked entry now ats = (lock : ℕ) → own_of (now.seats lock) (drop (length (entry.histories lock)) (now.histories lock)) ≡ marked lock now.histories ats
+-- those of one lock
+abbrev pub asks_at : ℕ → List At → List At
+asks_at lock ats = filter (λ (at : At). at.lock == lock) ats

@@ -1,6 +1,7 @@
 -- What is wanted of a request, and by whom.
-use Rattle.std.specs.Prelude.{◌≡◌, ℕ, Bool, true, false, ◌&&◌, List, Option, None, Some, Result, Ok, Err, if◌then◌else◌}
+use Rattle.std.specs.Prelude.{◌≡◌, ℕ, Bool, true, false, ◌&&◌, List, Option, None, Some, option_map, Result, Ok, Err, if◌then◌else◌}
 use Rattle.std.specs.List.{list_all}
+use Rattle.std.specs.Result.{result_map_both, result_flatten}
 use Rattle.std.specs.Str.{is_utf8}
 use Rattle.serde_json.specs.Data.{Data}
 use Rattle.serde_json.specs.Read.{read}
@@ -45,16 +46,12 @@ error_of_caller Required = AuthenticationRequired
 error_of_caller NoMemory = AuthenticationFailed
 
 abbrev pub sender_with : Route → Result (List ℕ) CallerFault → Result Sender ServerError
-sender_with route (Ok user) = Ok (record { route = route; user = user })
-sender_with route (Err fault) = Err (error_of_caller fault)
-
-abbrev pub sender_at : Table → List ℕ → Result Route RouteFault → Result Sender ServerError
-sender_at t target (Err fault) = Err BadRequest
-sender_at t target (Ok route) = sender_with route (caller_of t target)
+sender_with route caller = result_map_both (λ (user : List ℕ). record { route = route; user = user }) error_of_caller caller
 
 -- the route comes before the tokens
 abbrev pub sender_in : Table → Request → Result Sender ServerError
-sender_in t r = sender_at t r.target (route_of r.method r.target)
+sender_in t r =
+    result_flatten (result_map_both (λ (route : Route). sender_with route (caller_of t r.target)) (λ (fault : RouteFault). BadRequest) (route_of r.method r.target))
 
 -- ---- what is built
 
@@ -96,15 +93,14 @@ want_by (Ok caller) json = if is_built_route caller.route then want_of_call (cal
 abbrev pub want_of : Table → Request → Option Want
 want_of t r = want_by (sender_in t r) (json_of r.body)
 
--- The bytes are a whole request, of which this is wanted.
-pub record Wants (t : Table) (bytes : List ℕ) (w : Meaning) : Type 0 where
-  pub request : Request
-  pub is : IsRequest bytes request
-  pub close : w.close ≡ request.close
-  pub want : want_of t request ≡ Some w.want
+-- what is wanted of it, and whether it asks to close
+abbrev pub meaning_of : Table → Request → Option Meaning
+meaning_of t r = option_map (λ (want : Want). record { close = r.close; want = want }) (want_of t r)
 
--- A request stands at the front of the bytes, and its form is not built.
-pub record IsUnbuilt (t : Table) (bytes : List ℕ) : Type 0 where
-  pub request : Request
-  pub has : HasRequest bytes request
-  pub want : want_of t request ≡ None
+-- The bytes are a whole request, of which this is wanted.
+abbrev pub Wants : Table → List ℕ → Meaning → Type 0
+Wants t bytes wanted = (request : Request) × IsRequest bytes request × (meaning_of t request ≡ Some wanted)
+
+-- A request stands at the front of the bytes, of which this is wanted, or whose form is not built.
+abbrev pub HasInFront : Table → List ℕ → Option Meaning → Type 0
+HasInFront t bytes wanted = (request : Request) × HasRequest bytes request × (meaning_of t request ≡ wanted)

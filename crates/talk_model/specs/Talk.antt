@@ -1,5 +1,5 @@
 -- The bytes that are written for requests, as a function of the requests, their marks and the histories of the locks.
-use Rattle.std.specs.Prelude.{ℕ, List, [], ◌∷◌, ◌++◌}
+use Rattle.std.specs.Prelude.{ℕ, List, map, zip}
 use Rattle.zone_model.specs.declared.events.Event.{Event}
 use Rattle.zone_model.specs.Histories.{Histories}
 use Rattle.talk_model.specs.declared.marks.Mark.{Mark}
@@ -7,12 +7,6 @@ use Rattle.talk_model.specs.Requests.{Meaning}
 use Rattle.talk_model.specs.Calls.{text_at}
 use Rattle.talk_model.specs.Marks.{step_behind}
 
--- the reply to a request with this mark
-abbrev pub reply_at : Histories Event → Mark → Meaning → List ℕ
-reply_at h m w = text_at w.close (step_behind h m w)
-
--- the replies, one after another
-abbrev pub talk : List Meaning → List Mark → Histories Event → List ℕ
-talk [] marks h = []
-talk (w ∷ ws) [] h = []
-talk (w ∷ ws) (m ∷ marks) h = reply_at h m w ++ talk ws marks h
+-- the replies, one for each request, by what is to be done behind the asks of its mark
+abbrev pub talk : List Meaning → List Mark → Histories Event → List (List ℕ)
+talk wanted marks h = map (λ (p : Meaning × Mark). text_at p.0.close (step_behind h p.1 p.0)) (zip wanted marks)

@@ -42,5 +42,7 @@ pub mod ViewRows
 pub mod LegalRows
 -- what a lock is asked and answers
 pub mod AskRows
+-- what is hidden, and the sights of operations one after another
+pub mod HiddenRows
 -- what replies show of puts that go
 pub mod GoingRows

@@ -86,12 +86,12 @@ abbrev asked : Caller → List Commit → List Op → Request
 asked caller log ops = request_at caller 1000 log ops (link ∷ link ∷ [])
 
 -- where nothing has a fault, the commit is the effect
-judged_effect : (caller : Caller) (moment : ℕ) (log : List Commit) (ops : List Op) (guids : List (List ℕ)) (faults : List (Option OpFault))
+pub judged_effect : (caller : Caller) (moment : ℕ) (log : List Commit) (ops : List Op) (guids : List (List ℕ)) (faults : List (Option OpFault))
     → judgement_at caller moment log ops ≡ faults → has_fault faults ≡ false → effect_at caller moment log ops guids ≡ effect (request_at caller moment log ops guids)
 judged_effect caller moment log ops guids faults judged none = ap (λ b. if b then [] else effect (request_at caller moment log ops guids)) (ap has_fault judged ∙ none)
 
 -- and this comes from the records after the puts and the names that go
-effect_from : (q : Request) (rows : List Record) (taken names : List (List ℕ)) → after_puts q ≡ rows → names_taken q.caller q.seen q.ops ≡ taken → removed_names rows taken ≡ names
+pub effect_from : (q : Request) (rows : List Record) (taken names : List (List ℕ)) → after_puts q ≡ rows → names_taken q.caller q.seen q.ops ≡ taken → removed_names rows taken ≡ names
     → effect q ≡ commits_with q (writes q names)
 effect_from q rows taken names after takes goes = ap (λ gone. commits_with q (writes q gone))
     (ap (λ some. removed_names some (names_taken q.caller q.seen q.ops)) after ∙ ap (removed_names rows) takes ∙ goes)

@@ -8,5 +8,5 @@ pub loop-done-preserved : goal.loop-done-preserved
 loop-done-preserved g c = record {
   within = search rules;
   sent = rw take-add (appends_on _ _ _ _ _ c.loop-done.invariant.sent (rw take_rest at c.in_ok-done.ensures.bytes));
-  later = search rules;
+  kept = search rules;
 }

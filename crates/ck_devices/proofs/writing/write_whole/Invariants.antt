@@ -1,4 +1,4 @@
-use Rattle.std.proofs.Common.{◌≤◌, ◌-◌, length, take}
+use Rattle.std.proofs.Common.{◌≡◌, ◌≤◌, ◌-◌, length, take}
 use Rattle.std.specs.Io.KnownBytes.{Appends}
 use Rattle.ck_devices.proofs.writing.write_whole.Given as goal
 
@@ -6,7 +6,7 @@ abbrev pub invariant-loop-done : goal.invariant-loop-done
 invariant-loop-done g l = record {
   within : l.done ≤ length l.bytes;
   sent : Appends (g.W.Sink.held l.fn.sink) (g.W.Sink.held l.sink) (take l.done l.bytes);
-  later : g.W.Sink.fault_count l.fn.sink ≤ g.W.Sink.fault_count l.sink;
+  kept : g.W.Sink.fault_count l.sink ≡ g.W.Sink.fault_count l.fn.sink;
 }
 
 abbrev pub decreases-loop-done : goal.decreases-loop-done

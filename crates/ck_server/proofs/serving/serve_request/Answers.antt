@@ -1,8 +1,8 @@
-use Rattle.std.proofs.Common.{◌≡◌, ℕ, Bool, [], ◌∷◌, List, length, refl, sym, ap, subst, ◌∙◌, arith, Some}
+use Rattle.std.proofs.Common.{◌≡◌, ◌<◌, ℕ, Bool, MatchBool, [], ◌∷◌, List, length, refl, sym, ap, subst, ◌∙◌, arith, Some}
 use Rattle.ck_devices.specs.Runs.{GivesInTurn}
 use Rattle.talk_model.specs.declared.wants.Want.TheVariants.{Refused}
 use Rattle.talk_model.specs.Requests.{want_of}
-use Rattle.talk_model.specs.Given.{Given, draws_by, Draws, GaveFor, AreSoMany}
+use Rattle.talk_model.specs.Given.{Given, draws_by, Draws, GaveFor}
 use Rattle.ck_devices.proofs.Streams.{appends-nil}
 use Rattle.ck_server.specs.Answering.{Place, Serves}
 use Rattle.ck_server.specs.Marking.{given_with, GaveOne}
@@ -28,7 +28,7 @@ returns-in-Refused-clause-serves g c =
     let nothing : GivesInTurn draws c.args.words.now (draws_by drawn.words.items drawn.drawn) c.args.words.now =
     subst (λ (l : List (List ℕ)). GivesInTurn draws c.args.words.now (draws_by l drawn.drawn) c.args.words.now) (sym none.words)
     (subst (λ (b : Bool). GivesInTurn draws c.args.words.now (draws_by [] b) c.args.words.now) (sym none.drawn) refl) in
-    let few : AreSoMany drawn.drawn 0 (length drawn.words.items) = subst (λ (b : Bool). AreSoMany b 0 (length drawn.words.items)) (sym none.drawn) (ap length none.words) in
+    let few : MatchBool drawn.drawn (length drawn.words.items ≡ 0) (length drawn.words.items < 0) = subst (λ (b : Bool). MatchBool b (length drawn.words.items ≡ 0) (length drawn.words.items < 0)) (sym none.drawn) (ap length none.words) in
     let wants : want_of c.args.users.now c.args.request.now ≡ Some (Refused c.in-Refused.error) = sym c.in_ok-want.ensures.want ∙ (c.in-Some.is ∙ ap (λ w. Some w) c.in-Refused.is) in
     refusal_serves gave c.args.number (g.W.Sink.held c.args.sink.now) (g.W.Sink.held c.refuse_request.new.sink) (g.B.Board.state c.args.board.now)
     c.args.marks.now.items c.refuse_request.new.marks.items c.args.request.now.close c.in-Refused.error (Refused c.in-Refused.error) given

@@ -1,4 +1,4 @@
-use Rattle.std.proofs.Common.{◌<◌, ◌+◌, ap, length, arith}
+use Rattle.std.proofs.Common.{◌<◌, ◌+◌, ap, length, arith, rules}
 use Rattle.http_front.specs.Reading.{IsFault}
 use Rattle.http_front.proofs.ReadingLemmas.{told_err, found_on, unfinished_body, one_piece, reads_none, reads_on, body_cut, body_fails}
 use Rattle.http_front.proofs.reading.read_body.Goals as goal
@@ -29,5 +29,5 @@ loop-head-preserved g c =
       reads = reads_on _ _ _ _ _ _ c.loop-head.invariant.reads
           (one_piece _ _ c.loop-head.buffer c.fill.new.self (unfinished_body c.loop-head.buffer c.args.head c.loop-head.invariant.found c.args.size c.requires.stated less) more.0 (omega (arith, more.1, more.2)));
       found = found_on _ _ _ _ c.args.head c.loop-head.invariant.found more.0;
-      later = omega (arith, c.loop-head.invariant.later, c.fill.ensures.later);
+      kept = search rules;
     }

@@ -1,4 +1,4 @@
-use Rattle.std.proofs.Common.{◌≤◌, ◌+◌, ◌-◌, length}
+use Rattle.std.proofs.Common.{◌≡◌, ◌≤◌, ◌+◌, ◌-◌, length}
 use Rattle.http_front.specs.Reading.{ReadsOn}
 use Rattle.http_front.specs.Scans.{IsFound}
 use Rattle.http_front.proofs.reading.read_body.Given as goal
@@ -7,7 +7,7 @@ abbrev pub invariant-loop-head : goal.invariant-loop-head
 invariant-loop-head g l = record {
   reads : ReadsOn (g.S.Source.left l.fn.source) (g.S.Source.left l.source) l.fn.buffer l.buffer;
   found : IsFound l.buffer l.head;
-  later : g.S.Source.fault_count l.fn.source ≤ g.S.Source.fault_count l.source;
+  kept : g.S.Source.fault_count l.source ≡ g.S.Source.fault_count l.fn.source;
 }
 
 abbrev pub decreases-loop-head : goal.decreases-loop-head

@@ -19,7 +19,7 @@ loop-head-preserved g c =
     let more = c.fill_head.ensures.extends in
     record {
       reads = reads_on _ _ _ _ _ _ c.loop-head.invariant.reads (one_piece _ _ c.loop-head.buffer c.fill_head.new.buffer (waiting c.loop-head.buffer c.in-More.more waits) more c.in_ok-fill_head.ensures.piece);
-      later = omega (arith, c.loop-head.invariant.later, c.fill_head.ensures.later);
+      kept = search rules;
       scanned = subst (λ l. IsScanned l c.in-More.more) (sym more.grown) (scanned_more c.loop-head.buffer more.taken c.in-More.more waits.scanned);
       unended = subst (λ l. IsOpen l c.in-More.more.lines) (sym more.grown)
           (open_more c.loop-head.buffer more.taken c.in-More.more.lines (omega (arith, waits.scanned.behind, waits.scanned.within)) waits.unended);
