@@ -5,12 +5,11 @@ use Rattle.zone_model.specs.declared.commits.Commit.{Commit}
 use Rattle.zone_model.specs.declared.events.Event.{Event}
 use Rattle.zone_model.specs.Events.{commits_of, log_of}
 use Rattle.zone_model.specs.Modifying.{commits_of_request}
-use Rattle.drawn_names.specs.Drawing.{named_ops}
 use Rattle.board_model.specs.declared.parts.Part.{Part}
 use Rattle.board_model.specs.declared.parts.Part.TheVariants.{Modify, Lookup}
 use Rattle.board_model.specs.declared.answers.Answer.{Answer}
 use Rattle.board_model.specs.declared.answers.Answer.TheVariants.{StoreFailed}
-use Rattle.board_model.specs.Asks.{Append, stored, failed, caller_in, guids_at, commits_by, event_of, made, makes, told}
+use Rattle.board_model.specs.Asks.{Append, stored, failed, caller_in, commits_by, event_of, made, makes, told, ops_at}
 use Rattle.board_laws.specs.Answered.{view_for, CommitsAreMade, FailuresAreTold}
 
 pub log-append : (old more : List Event) → log_of (old ++ more) ≡ log_of old ++ log_of more
@@ -44,13 +43,13 @@ none_made append seat events (c ∷ cs) e = absurd (cc (e))
 
 unseen_made : (lock : ℕ) (events : List Event) (part : Part) → (view_for events part).here ≡ false → commits_by lock events part ≡ []
 unseen_made lock events (Modify user scope key atomic ops moment words) e =
-    ap (λ h. if h then commits_of_request (caller_in user scope key) moment (log_of events) atomic (named_ops ops words) (guids_at key ops words) else []) e
+    ap (λ h. if h then commits_of_request (caller_in user scope key) moment (log_of events) atomic (ops_at key ops words) else []) e
 unseen_made lock events (Lookup user scope key names) e = refl
 
 pub commits_made : CommitsAreMade
 commits_made = record {
   modify = λ lock events user scope key atomic ops moment words here.
-      ap (λ h. if h then commits_of_request (caller_in user scope key) moment (log_of events) atomic (named_ops ops words) (guids_at key ops words) else []) here;
+      ap (λ h. if h then commits_of_request (caller_in user scope key) moment (log_of events) atomic (ops_at key ops words) else []) here;
   lookup = λ lock events user scope key names. refl;
   unseen = unseen_made;
   one = λ append lock seat events part. one_event append seat events (commits_by lock events part);

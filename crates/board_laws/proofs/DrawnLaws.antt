@@ -1,6 +1,6 @@
--- Operations with their drawn names are puts as requests give them.
-use Rattle.std.proofs.Common.{◌≡◌, ℕ, zero, suc, ◌+◌, ◌-◌, ◌<◌, List, [], ◌∷◌, ◌++◌, length, Bool, true, false, cond, not, ◌&&◌, ◌||◌, refl, ap, ◌∙◌, subst, arith, Some, None, Option}
-use Rattle.std.specs.Prelude.{drop, is_none, is_some, nat_lt, nat_le, if◌then◌else◌}
+-- The operations of a request have names in their form, and GUIDs where they give roots, once these are drawn.
+use Rattle.std.proofs.Common.{◌≡◌, ℕ, zero, suc, ◌+◌, ◌-◌, ◌<◌, List, [], ◌∷◌, ◌++◌, length, Bool, true, false, cond, not, ◌&&◌, refl, sym, ap, ◌∙◌, subst, arith, Some, None, Option}
+use Rattle.std.specs.Prelude.{drop, is_some, unwrap_or, IfSome, nat_lt, nat_le, if◌then◌else◌}
 use Rattle.std.specs.List.{list_all, position_or_len, AllByRecursion}
 use Rattle.std.proofs.lemmas.Bool.{both_ways, and_parts, and_from, or_left, or_right, ltb-true, ltb-false, le-leb, le-ltb}
 use Rattle.uuid.specs.declared.Variant.TheVariants.{RFC4122}
@@ -10,12 +10,12 @@ use Rattle.uuid.specs.Text.{by_index, hex_digit, lower, nibble, digit_place, is_
 use Rattle.uuid.proofs.TextLemmas.{by_index_length, nibble_small}
 use Rattle.ck_base.specs.Names.{is_name_byte, first_outside, IsName}
 use Rattle.ck_base.specs.Guids.{is_hex_digit, IsGuid}
+use Rattle.record_model.specs.declared.draft.Draft.{Draft}
 use Rattle.zone_model.specs.declared.operations.Op.{Op}
-use Rattle.zone_model.specs.Requests.{is_create, is_deletion, first_guid, puts_in}
+use Rattle.zone_model.specs.Requests.{is_deletion}
 use Rattle.zone_model.specs.OpForms.{IsMeantWhere, IsMeantOp}
-use Rattle.zone_laws.specs.Laws.{IsGivenPut}
-use Rattle.zone_laws.proofs.StoredLaws.{some_form}
-use Rattle.drawn_names.specs.Drawing.{draws_name, one_if, name_of_word, guid_of_word, first_word, words_after, with_name, named_ops, guids_for, guids_of}
+use Rattle.zone_laws.specs.MeantRequests.{AreNamed, IsDrawn}
+use Rattle.drawn_names.specs.Drawing.{draws_name, draws_guid, one_if, name_of_word, guid_of_word, first_word, words_after, named_by, named_ops}
 
 -- ---- texts of words
 
@@ -67,54 +67,42 @@ word-guid lock word small =
     let f : ℕ → ℕ = λ k. hex_digit lower (nibble word k) in
     (ap suc (by_index_length 32 f), and_from (is_hex_digit (hex_digit lower lock)) _ (hex_is lock small) (by_index_all 32 f is_hex_digit (λ k. hex_is (nibble word k) (nibble_small word k))))
 
--- ---- one operation with its name
+-- ---- operations with their names
 
-named_some : {X : Type 0} (c : Bool) (o : Option X) → (c && is_none o) ≡ false → (c || is_some o) ≡ true → is_none o ≡ false
-named_some true o draws named = draws
-named_some false None draws named = absurd (both_ways false refl named)
-named_some false (Some x) draws named = refl
+drawn_by : (o : Option (List ℕ)) (word : List ℕ) → IfSome o IsName → IsName (unwrap_or o (name_of_word word))
+drawn_by None word form = word-name word
+drawn_by (Some name) word form = form
 
-abbrev op_by : Bool → Op → List ℕ → Op
-op_by b op word = if b then with_name op (name_of_word word) else op
+-- a name that is given has its form, in puts and in deletions
+given_form : (b : Bool) (d : Draft) → IsMeantWhere b d → IfSome d.name IsName
+given_form true d meant = subst (λ (e : Draft). IfSome e.name IsName) (sym meant.is) meant.name
+given_form false d meant = meant.name
 
-given_by : (b : Bool) (op : Op) (word guid : List ℕ) → draws_name op ≡ b → is_deletion op.kind ≡ false → IsMeantOp op → (is_some op.draft.for_root ≡ true → IsGuid guid)
-    → IsGivenPut (record { kind = (op_by b op word).kind; draft = (op_by b op word).draft; guid = guid })
-given_by true op word guid draws stays meant drawn =
-    let d = subst (λ g. IsMeantWhere g op.draft) stays meant.draft in
-    record {
-      name = word-name word;
-      meant = record { name = word-name word; rtype = d.rtype; tag = d.tag; parent = d.parent; root = d.root; participants = d.participants; fields = d.fields };
-      drawn = drawn;
-    }
-given_by false op word guid draws stays meant drawn =
-    let d = subst (λ g. IsMeantWhere g op.draft) stays meant.draft in
-    record { name = some_form op.draft.name (named_some (is_create op.kind) op.draft.name draws meant.named) d.name; meant = d; drawn = drawn }
+guid_by : (b : Bool) (lock : ℕ) (word : List ℕ) → lock < 16 → b ≡ true → IsGuid (if b then guid_of_word lock word else [])
+guid_by true lock word small is = word-guid lock word small
+guid_by false lock word small is = absurd (both_ways false refl is)
+
+-- only a put gives a root
+gives_by : (b : Bool) (d : Draft) → IsMeantWhere b d → is_some d.for_root ≡ true → (not b && is_some d.for_root) ≡ true
+gives_by true d meant rooted = absurd (both_ways (is_some d.for_root) (ap (λ (e : Draft). is_some e.for_root) meant.is) rooted)
+gives_by false d meant rooted = rooted
+
+one_drawn : (lock : ℕ) (op : Op) (words : List (List ℕ)) → lock < 16 → IsMeantOp op → IsDrawn (named_by lock (op, words))
+one_drawn lock op words small meant = record {
+  name = drawn_by op.draft.name (first_word words) (given_form (is_deletion op.kind) op.draft meant.draft);
+  guid = λ rooted. guid_by (draws_guid op) lock (first_word (drop (one_if (draws_name op)) words)) small (gives_by (is_deletion op.kind) op.draft meant.draft rooted);
+}
 
 -- ---- all of them
 
-module _ (lock : ℕ) (small : lock < 16) (op : Op) (words : List (List ℕ)) (rest : List Op) (more : List (List ℕ)) (meant : IsMeantOp op) (later : AllByRecursion IsGivenPut (puts_in rest more)) where
-  abbrev its_guid : List ℕ
-  its_guid = guid_of_word lock (first_word (drop (one_if (draws_name op)) words))
+pub all_drawn : (lock : ℕ) (ops : List Op) (words : List (List ℕ)) → lock < 16 → AllByRecursion IsMeantOp ops → AllByRecursion IsDrawn (named_ops lock ops words)
+all_drawn lock [] words small meant = tt
+all_drawn lock (op ∷ ops) words small meant = (one_drawn lock op words small meant.0, all_drawn lock ops (words_after op words) small meant.1)
 
-  abbrev guids_by : Bool → Bool → List (List ℕ)
-  guids_by d g = (if not d && g then its_guid ∷ [] else []) ++ more
+pub named_as_given : (lock : ℕ) (ops : List Op) (words : List (List ℕ)) → AreNamed ops (named_ops lock ops words)
+named_as_given lock [] words = refl
+named_as_given lock (op ∷ ops) words = ap (λ rest. op ∷ rest) (named_as_given lock ops (words_after op words))
 
-  put_step : (o : Op) (d g : Bool) → (d ≡ false → (guid : List ℕ) → (g ≡ true → IsGuid guid) → IsGivenPut (record { kind = o.kind; draft = o.draft; guid = guid }))
-      → AllByRecursion IsGivenPut (if d then puts_in rest (guids_by d g) else record { kind = o.kind; draft = o.draft; guid = first_guid (guids_by d g) } ∷ puts_in rest (if not d && g then drop 1 (guids_by d g) else guids_by d g))
-  put_step o true g given = later
-  put_step o false true given = (given refl its_guid (λ e. word-guid lock _ small), later)
-  put_step o false false given = (given refl (first_guid more) (λ e. absurd (both_ways false refl e)), later)
-
-  named_step : (b : Bool) → draws_name op ≡ b → AllByRecursion IsGivenPut (puts_in (op_by b op (first_word words) ∷ rest) (guids_for lock op words ++ more))
-  named_step true draws = put_step (with_name op (name_of_word (first_word words))) (is_deletion op.kind) (is_some op.draft.for_root) (λ stays guid drawn. given_by true op (first_word words) guid draws stays meant drawn)
-  named_step false draws = put_step op (is_deletion op.kind) (is_some op.draft.for_root) (λ stays guid drawn. given_by false op (first_word words) guid draws stays meant drawn)
-
-pub given-all : (lock : ℕ) (ops : List Op) (words : List (List ℕ)) → lock < 16 → AllByRecursion IsMeantOp ops → AllByRecursion IsGivenPut (puts_in (named_ops ops words) (guids_of lock ops words))
-given-all lock [] words small meant = tt
-given-all lock (op ∷ ops) words small meant =
-    named_step lock small op words (named_ops ops (words_after op words)) (guids_of lock ops (words_after op words)) meant.0
-    (given-all lock ops (words_after op words) small meant.1) (draws_name op) refl
-
-pub named-length : (ops : List Op) (words : List (List ℕ)) → length (named_ops ops words) ≡ length ops
-named-length [] words = refl
-named-length (op ∷ ops) words = ap suc (named-length ops (words_after op words))
+pub named-length : (lock : ℕ) (ops : List Op) (words : List (List ℕ)) → length (named_ops lock ops words) ≡ length ops
+named-length lock [] words = refl
+named-length lock (op ∷ ops) words = ap suc (named-length lock ops (words_after op words))

@@ -14,26 +14,25 @@ use Rattle.zone_model.specs.declared.events.Event.{Event}
 use Rattle.zone_model.specs.declared.events.Event.TheVariants.{Made, StoreFailed}
 use Rattle.zone_model.specs.Views.{is_empty, view_of}
 use Rattle.zone_model.specs.Form.{IsInForm}
-use Rattle.zone_model.specs.Requests.{Caller, guids_left}
+use Rattle.zone_model.specs.Requests.{Caller, NamedOp}
 use Rattle.zone_model.specs.Judging.{has_fault}
 use Rattle.zone_model.specs.Effect.{removed, writes}
 use Rattle.zone_model.specs.Modifying.{is_judged_as_one, request_at, judgement_at, effect_at, modified_as_one, modified_apart, commits_of_request}
-use Rattle.zone_model.specs.Lawful.{are_lawful}
+use Rattle.zone_laws.specs.LawfulTests.{are_lawful, are_of_lock, is_legal_event}
 use Rattle.zone_model.specs.Events.{log_of, own}
-use Rattle.zone_model.specs.Legal.{are_of_lock, faults_told, has_risen, is_legal_event, IsLegal}
+use Rattle.zone_model.specs.Legal.{faults_told, has_risen, IsLegal}
 use Rattle.zone_laws.specs.Laws.{HaveRoom, HasFewWrites}
 use Rattle.zone_laws.proofs.AnswerLaws.{each_answered}
-use Rattle.zone_laws.proofs.LawfulLaws.{effects_lawful}
+use Rattle.zone_laws.proofs.MeantLaws.{meant_lawful}
+use Rattle.zone_laws.proofs.TestLaws.{in_turn_back, event_so}
 use Rattle.zone_laws.proofs.StoredLaws.{effects_form}
 use Rattle.zone_laws.proofs.LegalLaws.{histories_legal}
-use Rattle.drawn_names.specs.Drawing.{named_ops}
 use Rattle.board_model.specs.declared.parts.Part.{Part}
 use Rattle.board_model.specs.declared.parts.Part.TheVariants.{Modify, Lookup}
-use Rattle.board_model.specs.Asks.{stored, failed, caller_in, guids_at, commits_by, event_of, made}
+use Rattle.board_model.specs.Asks.{stored, failed, caller_in, ops_at, commits_by, event_of, made}
 use Rattle.board_model.specs.Parts.{MayBeAsked}
 use Rattle.board_laws.specs.Lasting.{IsGivenModify, IsByRules, HasRoom, AsksStayLegal}
-use Rattle.board_laws.proofs.DrawnLaws.{given-all, named-length}
-use Rattle.board_laws.proofs.OnceLaws.{no_root_twice}
+use Rattle.board_laws.proofs.DrawnLaws.{all_drawn, named_as_given, named-length}
 use Rattle.board_laws.proofs.ThereLaws.{there-seen}
 
 -- ---- an event more
@@ -52,15 +51,15 @@ legal_more : (lock seat : ℕ) (events : List Event) (cs : List Commit) → IsLe
     → IsLegal lock (events ++ event_of stored seat events cs)
 legal_more lock seat events [] legal few at lawful formed = subst (IsLegal lock) (sym (append-nil events)) legal
 legal_more lock seat events (c ∷ cs) legal few at lawful formed =
-    histories_legal.grows lock events (next_made seat events (c ∷ cs)) legal (legal_made lock seat events c cs few at lawful) formed
+    histories_legal.grows lock events (next_made seat events (c ∷ cs)) legal (event_so lock events (next_made seat events (c ∷ cs)) (legal_made lock seat events c cs few at lawful) formed)
 
 failed_more : (from to lock seat : ℕ) (events : List Event) (cs : List Commit) → IsLegal lock events → faults_told events ≤ from → has_risen from to ≡ true
     → IsLegal lock (events ++ event_of (failed from to) seat events cs)
 failed_more from to lock seat events [] legal since risen = subst (IsLegal lock) (sym (append-nil events)) legal
 failed_more from to lock seat events (c ∷ cs) legal since risen =
     let e : Event = StoreFailed (record { seat = seat; count = suc (length (own seat events)) }) from to in
-    histories_legal.grows lock events e legal
-    (and_from (suc (length (own seat events)) == suc (length (own seat events))) _ (eq-eqb _ _ refl) (and_from (nat_le (faults_told events) from) _ (le-leb _ _ since) risen)) tt
+    histories_legal.grows lock events e legal (event_so lock events e
+    (and_from (suc (length (own seat events)) == suc (length (own seat events))) _ (eq-eqb _ _ refl) (and_from (nat_le (faults_told events) from) _ (le-leb _ _ since) risen)) tt)
 
 -- ---- what a request commits
 
@@ -70,27 +69,27 @@ module _ (caller : Caller) (moment lock : ℕ) (at : lock_of_names caller.key.ow
   one_at false true c is = refl
   one_at false false c is = and_from (lock_of_names c.key.owner c.key.zone == lock) true (eq-eqb _ _ (ap (λ (k : ZoneKey). lock_of_names k.owner k.zone) is ∙ at)) refl
 
-  effect_there : (log : List Commit) (ops : List Op) (guids : List (List ℕ)) → are_of_lock lock (effect_at caller moment log ops guids) ≡ true
-  effect_there log ops guids =
-      let q = request_at caller moment log ops guids in
+  effect_there : (log : List Commit) (ops : List NamedOp) → are_of_lock lock (effect_at caller moment log ops) ≡ true
+  effect_there log ops =
+      let q = request_at caller moment log ops in
       one_at (has_fault (judgement_at caller moment log ops)) (is_empty (writes q (removed q))) (record { key = caller.key; user = caller.user; moment = moment; act = Writes (writes q (removed q)) }) refl
 
-  apart_there : (ops : List Op) (log : List Commit) (guids : List (List ℕ)) → are_of_lock lock (modified_apart caller moment log ops guids).commits ≡ true
-  apart_there [] log guids = refl
-  apart_there (op ∷ ops) log guids =
-      let made = effect_at caller moment log (op ∷ []) guids in
-      list_all-append (λ (c : Commit). lock_of_names c.key.owner c.key.zone == lock) made (modified_apart caller moment (log ++ made) ops (guids_left op guids)).commits
-      ∙ and_from (are_of_lock lock made) _ (effect_there log (op ∷ []) guids) (apart_there ops (log ++ made) (guids_left op guids))
+  apart_there : (ops : List NamedOp) (log : List Commit) → are_of_lock lock (modified_apart caller moment log ops).commits ≡ true
+  apart_there [] log = refl
+  apart_there (op ∷ ops) log =
+      let made = effect_at caller moment log (op ∷ []) in
+      list_all-append (λ (c : Commit). lock_of_names c.key.owner c.key.zone == lock) made (modified_apart caller moment (log ++ made) ops).commits
+      ∙ and_from (are_of_lock lock made) _ (effect_there log (op ∷ [])) (apart_there ops (log ++ made))
 
-  request_there : (b : Bool) (log : List Commit) (ops : List Op) (guids : List (List ℕ))
-      → are_of_lock lock (if b then modified_as_one caller moment log ops guids else modified_apart caller moment log ops guids).commits ≡ true
-  request_there true log ops guids = effect_there log ops guids
-  request_there false log ops guids = apart_there ops log guids
+  request_there : (b : Bool) (log : List Commit) (ops : List NamedOp)
+      → are_of_lock lock (if b then modified_as_one caller moment log ops else modified_apart caller moment log ops).commits ≡ true
+  request_there true log ops = effect_there log ops
+  request_there false log ops = apart_there ops log
 
-few_by : (b : Bool) (caller : Caller) (moment : ℕ) (log : List Commit) (atomic : Bool) (ops : List Op) (guids : List (List ℕ)) → is_judged_as_one caller.key atomic ≡ b → length ops ≤ 200
-    → length (commits_of_request caller moment log atomic ops guids) ≤ 200
-few_by true caller moment log atomic ops guids is few = omega (arith, each_answered.one caller moment log atomic ops guids is)
-few_by false caller moment log atomic ops guids is few = omega (arith, few, each_answered.few caller moment log atomic ops guids is)
+few_by : (b : Bool) (caller : Caller) (moment : ℕ) (log : List Commit) (atomic : Bool) (ops : List NamedOp) → is_judged_as_one caller.key atomic ≡ b → length ops ≤ 200
+    → length (commits_of_request caller moment log atomic ops) ≤ 200
+few_by true caller moment log atomic ops is few = omega (arith, each_answered.one caller moment log atomic ops is)
+few_by false caller moment log atomic ops is few = omega (arith, few, each_answered.few caller moment log atomic ops is)
 
 -- ---- asks
 
@@ -99,27 +98,26 @@ module _ (lock seat : ℕ) (events : List Event) (user : List ℕ) (scope : Scop
   abbrev its_caller : Caller
   its_caller = caller_in user scope key
 
-  abbrev named : List Op
-  named = named_ops ops words
-
-  abbrev guids : List (List ℕ)
-  guids = guids_at key ops words
+  abbrev named : List NamedOp
+  named = ops_at key ops words
 
   abbrev its_commits : List Commit
-  its_commits = commits_of_request its_caller moment (log_of events) atomic named guids
+  its_commits = commits_of_request its_caller moment (log_of events) atomic named
 
   seen_legal : (b : Bool) → (view_of (log_of events) user scope key).here ≡ b → HaveRoom (log_of events) key (if b then its_commits else []) → AllByRecursion HasFewWrites (if b then its_commits else [])
       → IsLegal lock (events ++ event_of stored seat events (if b then its_commits else []))
   seen_legal true here room writes =
+      let lock_of = lock_of_names key.owner key.zone in
       let lawful = histories_legal.lawful lock events legal in
-      let there = there-seen (log_of events) user scope key lawful here in
-      let roots = no_root_twice ops words right.meant.once in
-      let given = given-all (lock_of_names key.owner key.zone) ops words (omega arith) right.meant.meant in
+      let there = there-seen (log_of events) user scope key (in_turn_back [] (log_of events) lawful) here in
+      let are = named_as_given lock_of ops words in
+      let roots = meant_lawful.roots ops named right.meant are in
+      let given = meant_lawful.puts ops named right.meant are (all_drawn lock_of ops words (omega arith) right.meant.meant) in
       legal_more lock seat events its_commits legal
-      (few_by (is_judged_as_one key atomic) its_caller moment (log_of events) atomic named guids refl (omega (arith, named-length ops words, right.meant.few)))
-      (request_there its_caller moment lock right.of_lock (is_judged_as_one key atomic) (log_of events) named guids)
-      (effects_lawful.requests its_caller moment (log_of events) atomic named guids lawful there roots)
-      (effects_form.requests its_caller moment (log_of events) atomic named guids lawful legal.formed there roots given right.named right.by_user right.in_time room writes)
+      (few_by (is_judged_as_one key atomic) its_caller moment (log_of events) atomic named refl (omega (arith, named-length lock_of ops words, right.meant.few)))
+      (request_there its_caller moment lock right.of_lock (is_judged_as_one key atomic) (log_of events) named)
+      (in_turn_back (log_of events) its_commits (meant_lawful.commits its_caller moment (log_of events) atomic ops named lawful there right.meant are))
+      (effects_form.requests its_caller moment (log_of events) atomic named lawful (histories_legal.formed lock events legal) there roots given right.named right.by_user right.in_time room writes)
   seen_legal false here room writes = subst (IsLegal lock) (sym (append-nil events)) legal
 
 stored_legal : (lock seat : ℕ) (events : List Event) (part : Part) → IsLegal lock events → IsByRules lock part → HasRoom lock events part → IsLegal lock (events ++ made stored lock seat events part)

@@ -6,10 +6,8 @@ pub mod CommitLaws
 pub mod SightLaws
 -- something is made where some outcome tells of something written
 pub mod MadeLaws
--- operations with their drawn names are puts as requests give them
+-- operations have names and GUIDs once these are drawn
 pub mod DrawnLaws
--- no root is given twice
-pub mod OnceLaws
 -- a zone that somebody sees is there
 pub mod ThereLaws
 -- the sights of operations one after another, where the zone is the same

@@ -12,7 +12,6 @@ use Rattle.share_records.specs.declared.share.Share.{Share as ShareOf}
 use Rattle.record_model.specs.declared.records.Record.{Record}
 use Rattle.name_rules.specs.Options.{is_some_and}
 use Rattle.name_rules.proofs.NameLemmas.{same-true, same-refl}
-use Rattle.zone_model.specs.declared.operations.Op.{Op}
 use Rattle.zone_model.specs.declared.operations.Past.{Past}
 use Rattle.zone_model.specs.declared.commits.Write.TheVariants.{Put}
 use Rattle.zone_model.specs.declared.commits.Act.TheVariants.{Writes}
@@ -20,7 +19,7 @@ use Rattle.zone_model.specs.Names.{same, is_in}
 use Rattle.zone_model.specs.Records.{record_at, is_there, is_share, share_of}
 use Rattle.zone_model.specs.Zones.{after_write}
 use Rattle.zone_model.specs.Views.{is_visible}
-use Rattle.zone_model.specs.Requests.{Caller, Putting, is_deletion, makes_new, has_share_type, name_of_op, name_of_put, root_given, names_deleted, first_guid, puts_in}
+use Rattle.zone_model.specs.Requests.{Caller, NamedOp, is_deletion, makes_new, has_share_type, root_given, names_deleted, puts_in}
 use Rattle.zone_model.specs.Putting.{new_record, written_over}
 use Rattle.zone_model.specs.Working.{is_share_of, is_new_share_of, with_puts, mark_of}
 use Rattle.zone_model.specs.Grounds.{is_taken_by_deletion}
@@ -30,7 +29,7 @@ use Rattle.zone_model.specs.Effect.{Request, working, is_asked, is_marked, is_pu
 use Rattle.zone_laws.specs.Laws.{IsPermittedOp}
 use Rattle.zone_laws.proofs.RecordLaws.{none-some, found-name, found-kept, found-dropped}
 use Rattle.zone_laws.proofs.OrderLaws.{ascending-some, ascending-act}
-use Rattle.zone_laws.proofs.WorkingLaws.{put_at, put_over, blank, found-working}
+use Rattle.zone_laws.proofs.WorkingLaws.{put_at, put_over, found-working}
 use Rattle.zone_laws.proofs.AfterLaws.{ascending-working, settle, found-settled, found-nothing}
 use Rattle.zone_laws.proofs.CoreLaws.{Core, share-core, root_begun, new-root, none_put}
 use Rattle.zone_laws.proofs.JudgeLaws.{there-found}
@@ -51,23 +50,23 @@ shared_is (Some s) x e = refl
 
 -- ---- one put, where the user sees these records
 
-module _ (user : List ℕ) (key : ZoneKey) (moment : ℕ) (seen : List Record) (op : Op) (guids : List (List ℕ)) (pasts : List Past) where
+module _ (user : List ℕ) (key : ZoneKey) (moment : ℕ) (seen : List Record) (op : NamedOp) (pasts : List Past) where
   abbrev its_caller : Caller
   its_caller = record { user = user; scope = Shared; key = key }
 
   abbrev name : List ℕ
-  name = name_of_op op
+  name = op.name
 
   -- in a zone with these records, and these counts of puts
   abbrev pub request_in : List Record → (List ℕ → ℕ) → Request
-  request_in rows puts = record { caller = its_caller; moment = moment; seen = seen; rows = rows; puts = puts; ops = op ∷ []; guids = guids }
+  request_in rows puts = record { caller = its_caller; moment = moment; seen = seen; rows = rows; puts = puts; ops = op ∷ [] }
 
   module _ (rows : List Record) (puts : List ℕ → ℕ) (puts_one : is_deletion op.kind ≡ false) where
     abbrev q : Request
     q = request_in rows puts
 
     none_deleted : names_deleted (op ∷ []) ≡ []
-    none_deleted = ap (λ d. map name_of_op (cond d (op ∷ []) [])) puts_one
+    none_deleted = ap (λ d. map (λ (p : NamedOp). p.name) (cond d (op ∷ []) [])) puts_one
 
     pub none_removed : removed q ≡ []
     none_removed = ap (λ names. removed_names (after_puts q) (filter (is_taken_by_deletion its_caller seen) names)) none_deleted ∙ none_reached (after_puts q) (length (after_puts q))
@@ -98,17 +97,14 @@ module _ (user : List ℕ) (key : ZoneKey) (moment : ℕ) (seen : List Record) (
     settled_is b r is = (λ i. if written_is r i then final_is r i else r) ∙ ap (λ c. if c then stamped q r else r) is
 
     module _ (fine : IsFine q pasts) (permitted : IsPermittedOp (ground q pasts) op) where
-      abbrev its_put : Putting
-      its_put = record { kind = op.kind; draft = op.draft; guid = first_guid guids }
+      puts_are : puts_in (op ∷ []) ≡ op ∷ []
+      puts_are = ap (λ d. cond (not d) (op ∷ []) []) puts_one
 
-      puts_are : puts_in (op ∷ []) guids ≡ its_put ∷ []
-      puts_are = ap (λ d. if d then [] else its_put ∷ []) puts_one
-
-      found_put : (s : Bool) (x : List ℕ) (p : Putting) → same x name ≡ s → cond s (Some its_put) None ≡ Some p → (x ≡ name) × (p ≡ its_put)
-      found_put true x p is e = (same-true x name is, sym (ap (λ o. option_map_or (λ (t : Putting). t) o its_put) e))
+      found_put : (s : Bool) (x : List ℕ) (p : NamedOp) → same x name ≡ s → cond s (Some op) None ≡ Some p → (x ≡ name) × (p ≡ op)
+      found_put true x p is e = (same-true x name is, sym (ap (λ o. option_map_or (λ (t : NamedOp). t) o op) e))
       found_put false x p is e = absurd (none_put p e)
 
-      put_is : (x : List ℕ) (p : Putting) → put_at (puts_in (op ∷ []) guids) x ≡ Some p → (x ≡ name) × (p ≡ its_put)
+      put_is : (x : List ℕ) (p : NamedOp) → put_at (puts_in (op ∷ [])) x ≡ Some p → (x ≡ name) × (p ≡ op)
       put_is x p e = found_put (same x name) x p refl (ap (λ ps. put_at ps x) (sym puts_are) ∙ e)
 
       -- it begins no share
@@ -117,9 +113,9 @@ module _ (user : List ℕ) (key : ZoneKey) (moment : ℕ) (seen : List Record) (
           let new = new-in-working q pasts fine x w unseen is in
           let p = put_is x new.put new.at in
           let free : is_there seen name ≡ false = subst (λ y. is_there seen y ≡ false) p.0 (there-found seen x ∙ ap is_some unseen) in
-          let makes : makes_new op.kind ≡ true = ap (λ (t : Putting). makes_new t.kind) (sym p.1) ∙ new.makes in
+          let makes : makes_new op.kind ≡ true = ap (λ (t : NamedOp). makes_new t.kind) (sym p.1) ∙ new.makes in
           let typed : has_share_type op.draft ≡ false = right_of (not (is_there seen name)) _ (ap not free) (right_of (makes_new op.kind) _ makes ((permitted.put puts_one).new free).0) in
-          share-core w ∙ ap (λ (c : Core). is_some c.root) new.is ∙ ap is_some (new-root new.put) ∙ ap (λ (t : Putting). is_some (root_begun t.draft)) p.1
+          share-core w ∙ ap (λ (c : Core). is_some c.root) new.is ∙ ap is_some (new-root new.put) ∙ ap (λ (t : NamedOp). is_some (root_begun t.draft)) p.1
           ∙ ap (λ b. is_some (if b then root_given op.draft else None)) typed
 
       no_mark : (x : List ℕ) → is_marked q x ≡ false
@@ -133,22 +129,22 @@ module _ (user : List ℕ) (key : ZoneKey) (moment : ℕ) (seen : List Record) (
       only_its_name : (x : List ℕ) → is_put q x ≡ true → x ≡ name
       only_its_name x e =
           let asked : is_asked q x ≡ true = ⊎_elim (λ (a : is_asked q x ≡ true). a) (λ (m : is_marked q x ≡ true). absurd (both_ways (is_marked q x) (no_mark x) m)) (or_cases (is_asked q x) (is_marked q x) e) in
-          same-true x name (sym (or-false (same x name)) ∙ ap (list_any (λ (p : Putting). same x (name_of_put p))) (sym puts_are) ∙ asked)
+          same-true x name (sym (or-false (same x name)) ∙ ap (list_any (λ (p : NamedOp). same x p.name)) (sym puts_are) ∙ asked)
 
       working_by : (o : Option Record) (x : List ℕ) → record_at seen x ≡ o → is_put q x ≡ true → (w : Record) × (record_at (working q) x ≡ Some w)
       working_by (Some v) x is e = seen-stays q pasts fine x v is
       working_by None x unseen e =
           let its = only_its_name x e in
-          let at : put_at (puts_in (op ∷ []) guids) x ≡ Some its_put = ap (λ ps. put_at ps x) puts_are ∙ cond-true (same x name) (Some its_put) None (subst (λ y. same x y ≡ true) its (same-refl x)) in
-          let new : is_new (ground q pasts) (blank its_put) ≡ true = is-new q pasts fine x its_put at unseen in
+          let at : put_at (puts_in (op ∷ [])) x ≡ Some op = ap (λ ps. put_at ps x) puts_are ∙ cond-true (same x name) (Some op) None (subst (λ y. same x y ≡ true) its (same-refl x)) in
+          let new : is_new (ground q pasts) op ≡ true = is-new q pasts fine x op at unseen in
           let makes : makes_new op.kind ≡ true = true_from_ne_false (makes_new op.kind)
-          (λ m. both_ways (is_missing (ground q pasts) (blank its_put)) (checked q pasts fine x its_put at).found (and_from (not (makes_new op.kind)) _ (ap not m) new)) in
-          let mark : Record → Record = λ r. record r { share = mark_of Shared seen (op ∷ []) (with_puts seen (op ∷ []) guids) r } in (
-            mark (new_record its_put),
-            found-working seen Shared (op ∷ []) guids x
+          (λ m. both_ways (is_missing (ground q pasts) op) (checked q pasts fine x op at).found (and_from (not (makes_new op.kind)) _ (ap not m) new)) in
+          let mark : Record → Record = λ r. record r { share = mark_of Shared seen (op ∷ []) (with_puts seen (op ∷ [])) r } in (
+            mark (new_record op),
+            found-working seen Shared (op ∷ []) x
                 ∙ ap (λ i. option_map mark (put_over seen i (record_at seen x))) at
-                ∙ ap (λ o. option_map mark (option_map_or Some (written_over its_put o) (record_at seen x))) (ap (record_at seen) (sym its) ∙ unseen)
-                ∙ ap (λ b. option_map mark (option_map_or Some (if b then Some (new_record its_put) else None) (record_at seen x))) makes,
+                ∙ ap (λ o. option_map mark (option_map_or Some (written_over op o) (record_at seen x))) (ap (record_at seen) (sym its) ∙ unseen)
+                ∙ ap (λ b. option_map mark (option_map_or Some (if b then Some (new_record op) else None) (record_at seen x))) makes,
           )
 
       working_at : (x : List ℕ) → is_put q x ≡ true → (w : Record) × (record_at (working q) x ≡ Some w)

@@ -3,6 +3,7 @@ use Rattle.std.proofs.Common.{◌≡◌, ℕ, List, [], ◌∷◌, ◌++◌, Boo
 use Rattle.std.specs.Prelude.{find, fold, unwrap_or, count_by, if◌then◌else◌}
 use Rattle.std.specs.List.{AllByRecursion}
 use Rattle.std.proofs.lemmas.Bool.{both_ways, not-true}
+use Rattle.ck_base.specs.Names.{lock_of_names}
 use Rattle.ck_base.specs.declared.key.ZoneKey.{ZoneKey}
 use Rattle.ck_base.specs.declared.scope.Scope.{Scope}
 use Rattle.ck_base.specs.declared.scope.Scope.TheVariants.{Private, Shared}
@@ -17,20 +18,21 @@ use Rattle.zone_model.specs.Records.{is_there}
 use Rattle.zone_model.specs.Zones.{Zone, first_zone, commits_at, zone_at, after_act, act_puts, puts_at}
 use Rattle.zone_model.specs.Views.{nowhere, participant_view, view_of_zone, view_of}
 use Rattle.zone_model.specs.Past.{past_of, name_history}
-use Rattle.zone_model.specs.Requests.{Caller, is_deletion, name_of_put, puts_in, guids_left}
+use Rattle.zone_model.specs.Requests.{Caller, names_put, puts_in, NamedOp}
 use Rattle.zone_model.specs.Judging.{has_fault, judgement}
 use Rattle.zone_model.specs.Effect.{effect}
 use Rattle.zone_model.specs.Modifying.{is_judged_as_one, effect_at}
-use Rattle.zone_model.specs.Lawful.{are_lawful}
+use Rattle.zone_laws.specs.LawfulTests.{are_lawful}
 use Rattle.zone_model.specs.Events.{log_of}
+use Rattle.zone_laws.proofs.TestLaws.{in_turn_back}
 use Rattle.zone_laws.proofs.LogLaws.{commits_at-append, zone-append, puts-append}
-use Rattle.drawn_names.specs.Drawing.{draws_name, name_of_word, first_word, words_after, with_name, named_by, named_ops}
+use Rattle.drawn_names.specs.Drawing.{words_after, named_ops}
 use Rattle.board_model.specs.declared.parts.Part.{Part}
 use Rattle.board_model.specs.declared.parts.Part.TheVariants.{Modify, Lookup}
 use Rattle.board_model.specs.Sights.{OpSight, modifying, viewing, op_sight, sights_of}
-use Rattle.board_model.specs.Asks.{caller_in, guids_at, sight, answer}
+use Rattle.board_model.specs.Asks.{caller_in, sight, answer, ops_at}
 use Rattle.board_laws.specs.Sighted.{deletes_before, key_of, IsOfOther, ShowTheSame, is_told_at_once, rests_on_seen, SightsAreTold, SightsDecide}
-use Rattle.board_laws.proofs.OutcomeLaws.{offered, past_offered}
+use Rattle.board_laws.proofs.OutcomeLaws.{past_offered}
 use Rattle.board_laws.proofs.CommitLaws.{log-append}
 use Rattle.board_laws.proofs.ThereLaws.{there-seen}
 use Rattle.board_laws.proofs.ZoneSightLaws.{AreAlike, puts_alike, seen_alike, each_alike}
@@ -49,25 +51,25 @@ same_more key old new more is = record {
 }
 
 module _ (caller : Caller) (moment : ℕ) where
-  op_alike : (old new : List Commit) (ops : List Op) → IsSameZone caller.key old new → op_sight caller moment old ops ≡ op_sight caller moment new ops
+  op_alike : (old new : List Commit) (ops : List NamedOp) → IsSameZone caller.key old new → op_sight caller moment old ops ≡ op_sight caller moment new ops
   op_alike old new ops is i = record {
     view = view_of_zone (is.zone i) caller.user caller.scope caller.key;
-    pasts = map (λ x. record { name = x; puts = is.puts x i; taken = is_there (is.zone i).rows x }) (distinct (map name_of_put (puts_in ops [])));
+    pasts = map (λ x. record { name = x; puts = is.puts x i; taken = is_there (is.zone i).rows x }) (distinct (map (λ (o : NamedOp). o.name) (puts_in ops)));
   }
 
-  effect_alike : (old new : List Commit) (ops : List Op) (guids : List (List ℕ)) → IsSameZone caller.key old new → effect_at caller moment old ops guids ≡ effect_at caller moment new ops guids
-  effect_alike old new ops guids is i =
+  effect_alike : (old new : List Commit) (ops : List NamedOp) → IsSameZone caller.key old new → effect_at caller moment old ops ≡ effect_at caller moment new ops
+  effect_alike old new ops is i =
       let v = view_of_zone (is.zone i) caller.user caller.scope caller.key in
-      let pasts : List Past = map (λ x. record { name = x; puts = is.puts x i; taken = is_there (is.zone i).rows x }) (distinct (map name_of_put (puts_in ops []))) in
+      let pasts : List Past = map (λ x. record { name = x; puts = is.puts x i; taken = is_there (is.zone i).rows x }) (distinct (map (λ (o : NamedOp). o.name) (puts_in ops))) in
       if has_fault (judgement v pasts ops caller) then []
-      else effect (record { caller = caller; moment = moment; seen = v.rows; rows = (is.zone i).rows; puts = λ x. is.puts x i; ops = ops; guids = guids })
+      else effect (record { caller = caller; moment = moment; seen = v.rows; rows = (is.zone i).rows; puts = λ x. is.puts x i; ops = ops })
 
-  sights_alike : (ops : List Op) (old new : List Commit) (guids : List (List ℕ)) → IsSameZone caller.key old new → sights_of caller moment old ops guids ≡ sights_of caller moment new ops guids
-  sights_alike [] old new guids is = refl
-  sights_alike (op ∷ ops) old new guids is =
-      let made = effect_at caller moment old (op ∷ []) guids in
-      let later = subst (λ cs. IsSameZone caller.key (old ++ made) (new ++ cs)) (effect_alike old new (op ∷ []) guids is) (same_more caller.key old new made is) in
-      λ i. op_alike old new (op ∷ []) is i ∷ sights_alike ops (old ++ made) (new ++ effect_at caller moment new (op ∷ []) guids) (guids_left op guids) later i
+  sights_alike : (ops : List NamedOp) (old new : List Commit) → IsSameZone caller.key old new → sights_of caller moment old ops ≡ sights_of caller moment new ops
+  sights_alike [] old new is = refl
+  sights_alike (op ∷ ops) old new is =
+      let made = effect_at caller moment old (op ∷ []) in
+      let later = subst (λ cs. IsSameZone caller.key (old ++ made) (new ++ cs)) (effect_alike old new (op ∷ []) is) (same_more caller.key old new made is) in
+      λ i. op_alike old new (op ∷ []) is i ∷ sights_alike ops (old ++ made) (new ++ effect_at caller moment new (op ∷ [])) later i
 
 -- ---- events of other zones
 
@@ -86,10 +88,9 @@ same_behind key old more all =
 sight_alike : (lock : ℕ) (old new : List Event) (part : Part) → IsSameZone (key_of part) (log_of old) (log_of new) → sight lock old part ≡ sight lock new part
 sight_alike lock old new (Modify user scope key atomic ops moment words) is =
     let caller = caller_in user scope key in
-    let named = named_ops ops words in
-    let guids = guids_at key ops words in
+    let named = ops_at key ops words in
     λ i. (let before : OpSight = op_alike caller moment (log_of old) (log_of new) named is i in
-    modifying before (if not before.view.here || is_judged_as_one key atomic then [] else sights_alike caller moment named (log_of old) (log_of new) guids is i))
+    modifying before (if not before.view.here || is_judged_as_one key atomic then [] else sights_alike caller moment named (log_of old) (log_of new) is i))
 sight_alike lock old new (Lookup user scope key names) is = ap (λ z. viewing (view_of_zone z user scope key)) is.zone
 
 -- ---- where the user sees the same
@@ -99,16 +100,15 @@ always true = refl
 always false = refl
 
 as_one_alike : (lock : ℕ) (old new : List Event) (user : List ℕ) (scope : Scope) (key : ZoneKey) (atomic : Bool) (ops : List Op) (moment : ℕ) (words : List (List ℕ)) → is_judged_as_one key atomic ≡ true
-    → view_of (log_of old) user scope key ≡ view_of (log_of new) user scope key → name_history (log_of old) key (named_ops ops words) ≡ name_history (log_of new) key (named_ops ops words)
+    → view_of (log_of old) user scope key ≡ view_of (log_of new) user scope key → name_history (log_of old) key (ops_at key ops words) ≡ name_history (log_of new) key (ops_at key ops words)
     → sight lock old (Modify user scope key atomic ops moment words) ≡ sight lock new (Modify user scope key atomic ops moment words)
 as_one_alike lock old new user scope key atomic ops moment words one view pasts =
     let caller = caller_in user scope key in
-    let named = named_ops ops words in
-    let guids = guids_at key ops words in
+    let named = ops_at key ops words in
     let alone : (events : List Event) → sight lock events (Modify user scope key atomic ops moment words) ≡ modifying (op_sight caller moment (log_of events) named) [] = λ events.
     let here = (view_of (log_of events) user scope key).here in
-    ap (λ b. modifying (op_sight caller moment (log_of events) named) (if not here || b then [] else sights_of caller moment (log_of events) named guids)) one
-    ∙ ap (λ b. modifying (op_sight caller moment (log_of events) named) (if b then [] else sights_of caller moment (log_of events) named guids)) (always (not here)) in
+    ap (λ b. modifying (op_sight caller moment (log_of events) named) (if not here || b then [] else sights_of caller moment (log_of events) named)) one
+    ∙ ap (λ b. modifying (op_sight caller moment (log_of events) named) (if b then [] else sights_of caller moment (log_of events) named)) (always (not here)) in
     alone old ∙ (λ i. (let s : OpSight = record { view = view i; pasts = pasts i } in modifying s [])) ∙ sym (alone new)
 
 -- what comes behind the first sight is not looked at where the zone is not here
@@ -118,13 +118,12 @@ behind_by true false s each other same = ap (modifying s) (same refl)
 behind_by false one s each other same = refl
 
 zone_alike : (lock : ℕ) (old new : List Event) (user : List ℕ) (scope : Scope) (key : ZoneKey) (atomic : Bool) (ops : List Op) (moment : ℕ) (words : List (List ℕ)) → are_lawful [] (log_of old) ≡ true → are_lawful [] (log_of new) ≡ true
-    → zone_at (log_of old) key ≡ zone_at (log_of new) key → name_history (log_of old) key (named_ops ops words) ≡ name_history (log_of new) key (named_ops ops words)
+    → zone_at (log_of old) key ≡ zone_at (log_of new) key → name_history (log_of old) key (ops_at key ops words) ≡ name_history (log_of new) key (ops_at key ops words)
     → sight lock old (Modify user scope key atomic ops moment words) ≡ sight lock new (Modify user scope key atomic ops moment words)
 zone_alike lock old new user scope key atomic ops moment words lawful_old lawful_new zone pasts =
     let caller = caller_in user scope key in
-    let named = named_ops ops words in
-    let guids = guids_at key ops words in
-    let each = sights_of caller moment (log_of old) named guids in
+    let named = ops_at key ops words in
+    let each = sights_of caller moment (log_of old) named in
     let alike : (view_of (log_of old) user scope key).here ≡ true → AreAlike key named (log_of old) (log_of new) = λ here. record {
       zone = zone;
       puts = puts_alike (log_of old) (log_of new) key named pasts;
@@ -132,10 +131,10 @@ zone_alike lock old new user scope key atomic ops moment words lawful_old lawful
       lawful_new = lawful_new;
       there = there-seen (log_of old) user scope key lawful_old here;
     } in
-    behind_by (view_of (log_of old) user scope key).here (is_judged_as_one key atomic) (op_sight caller moment (log_of old) named) each (sights_of caller moment (log_of new) named guids)
-    (λ here. each_alike caller moment named (log_of old) (log_of new) guids (alike here))
+    behind_by (view_of (log_of old) user scope key).here (is_judged_as_one key atomic) (op_sight caller moment (log_of old) named) each (sights_of caller moment (log_of new) named)
+    (λ here. each_alike caller moment named (log_of old) (log_of new) (alike here))
     ∙ (λ i. (let s : OpSight = seen_alike caller moment (log_of old) (log_of new) named zone pasts i in
-    modifying s (if not s.view.here || is_judged_as_one key atomic then [] else sights_of caller moment (log_of new) named guids)))
+    modifying s (if not s.view.here || is_judged_as_one key atomic then [] else sights_of caller moment (log_of new) named)))
 
 -- the owner's view tells the zone
 zone_by : (b t : Bool) (rows : List Record) → (let v : View = if b then (if t then record { here = true; rows = rows } else nowhere) else nowhere in
@@ -151,14 +150,14 @@ zone_seen : (log : List Commit) (user : List ℕ) (key : ZoneKey) → (view_of l
 zone_seen log user key e = zone_by (same user key.owner) (zone_at log key).there (zone_at log key).rows e
 
 unseen_alike : (lock : ℕ) (events : List Event) (user : List ℕ) (scope : Scope) (key : ZoneKey) (atomic : Bool) (ops : List Op) (moment : ℕ) (words : List (List ℕ)) → (view_of (log_of events) user scope key).here ≡ false
-    → sight lock events (Modify user scope key atomic ops moment words) ≡ modifying (op_sight (caller_in user scope key) moment (log_of events) (named_ops ops words)) []
+    → sight lock events (Modify user scope key atomic ops moment words) ≡ modifying (op_sight (caller_in user scope key) moment (log_of events) (ops_at key ops words)) []
 unseen_alike lock events user scope key atomic ops moment words e =
     let caller = caller_in user scope key in
-    ap (λ h. modifying (op_sight caller moment (log_of events) (named_ops ops words)) (if not h || is_judged_as_one key atomic then [] else sights_of caller moment (log_of events) (named_ops ops words) (guids_at key ops words))) e
+    ap (λ h. modifying (op_sight caller moment (log_of events) (ops_at key ops words)) (if not h || is_judged_as_one key atomic then [] else sights_of caller moment (log_of events) (ops_at key ops words))) e
 
 -- where the user sees no such zone, only the past of the names is told
 both_unseen : (lock : ℕ) (old new : List Event) (user : List ℕ) (scope : Scope) (key : ZoneKey) (atomic : Bool) (ops : List Op) (moment : ℕ) (words : List (List ℕ)) → (view_of (log_of old) user scope key).here ≡ false
-    → view_of (log_of old) user scope key ≡ view_of (log_of new) user scope key → name_history (log_of old) key (named_ops ops words) ≡ name_history (log_of new) key (named_ops ops words)
+    → view_of (log_of old) user scope key ≡ view_of (log_of new) user scope key → name_history (log_of old) key (ops_at key ops words) ≡ name_history (log_of new) key (ops_at key ops words)
     → sight lock old (Modify user scope key atomic ops moment words) ≡ sight lock new (Modify user scope key atomic ops moment words)
 both_unseen lock old new user scope key atomic ops moment words here view pasts =
     unseen_alike lock old user scope key atomic ops moment words here
@@ -167,7 +166,7 @@ both_unseen lock old new user scope key atomic ops moment words here view pasts 
 
 private_by : (h : Bool) (lock : ℕ) (old new : List Event) (user : List ℕ) (key : ZoneKey) (atomic : Bool) (ops : List Op) (moment : ℕ) (words : List (List ℕ)) → (view_of (log_of old) user Private key).here ≡ h
     → are_lawful [] (log_of old) ≡ true → are_lawful [] (log_of new) ≡ true
-    → view_of (log_of old) user Private key ≡ view_of (log_of new) user Private key → name_history (log_of old) key (named_ops ops words) ≡ name_history (log_of new) key (named_ops ops words)
+    → view_of (log_of old) user Private key ≡ view_of (log_of new) user Private key → name_history (log_of old) key (ops_at key ops words) ≡ name_history (log_of new) key (ops_at key ops words)
     → sight lock old (Modify user Private key atomic ops moment words) ≡ sight lock new (Modify user Private key atomic ops moment words)
 private_by true lock old new user key atomic ops moment words here lawful_old lawful_new view pasts =
     let here_new : (view_of (log_of new) user Private key).here ≡ true = subst (λ (v : View). v.here ≡ true) view here in
@@ -180,30 +179,21 @@ apart_by : (b : Bool) (v : View) → (if b then nowhere else v).here ≡ true �
 apart_by true v e = absurd (both_ways false refl e)
 apart_by false v e = refl
 
-kind_by : (b : Bool) (op : Op) (name : List ℕ) → is_deletion (if b then with_name op name else op).kind ≡ is_deletion op.kind
-kind_by true op name = refl
-kind_by false op name = refl
+named_kinds : (lock : ℕ) (ops : List Op) (words : List (List ℕ)) → map (λ (op : NamedOp). op.kind) (named_ops lock ops words) ≡ map (λ (op : Op). op.kind) ops
+named_kinds lock [] words = refl
+named_kinds lock (op ∷ ops) words = ap (λ kinds. op.kind ∷ kinds) (named_kinds lock ops (words_after op words))
 
-named_kind : (op : Op) (words : List (List ℕ)) → is_deletion (named_by op (first_word words)).kind ≡ is_deletion op.kind
-named_kind op words = kind_by (draws_name op) op (name_of_word (first_word words))
-
-named_deletes : (ops : List Op) (words : List (List ℕ)) → deletes_before (named_ops ops words) ≡ deletes_before ops
-named_deletes [] words = refl
-named_deletes (op ∷ []) words = refl
-named_deletes (op ∷ next ∷ ops) words = λ i. named_kind op words i || named_deletes (next ∷ ops) (words_after op words) i
-
-its_past : (old new : List Commit) (key : ZoneKey) (ops : List Op) → name_history old key ops ≡ name_history new key ops → (x : List ℕ) → is_in (offered ops) x ≡ true → past_of old key x ≡ past_of new key x
+its_past : (old new : List Commit) (key : ZoneKey) (ops : List NamedOp) → name_history old key ops ≡ name_history new key ops → (x : List ℕ) → is_in (names_put ops) x ≡ true → past_of old key x ≡ past_of new key x
 its_past old new key ops same_past x i = ap (λ o. unwrap_or o (past_of old key x)) (sym (past_offered old key ops x i) ∙ ap (find (λ (p : Past). same x p.name)) same_past ∙ past_offered new key ops x i)
 
 shared_by : (h : Bool) (lock : ℕ) (old new : List Event) (user : List ℕ) (key : ZoneKey) (atomic : Bool) (ops : List Op) (moment : ℕ) (words : List (List ℕ)) → (view_of (log_of old) user Shared key).here ≡ h
-    → are_lawful [] (log_of old) ≡ true → are_lawful [] (log_of new) ≡ true → deletes_before ops ≡ false
-    → view_of (log_of old) user Shared key ≡ view_of (log_of new) user Shared key → name_history (log_of old) key (named_ops ops words) ≡ name_history (log_of new) key (named_ops ops words)
+    → are_lawful [] (log_of old) ≡ true → are_lawful [] (log_of new) ≡ true → deletes_before (map (λ (op : Op). op.kind) ops) ≡ false
+    → view_of (log_of old) user Shared key ≡ view_of (log_of new) user Shared key → name_history (log_of old) key (ops_at key ops words) ≡ name_history (log_of new) key (ops_at key ops words)
     → sight lock old (Modify user Shared key atomic ops moment words) ≡ sight lock new (Modify user Shared key atomic ops moment words)
 shared_by false lock old new user key atomic ops moment words here lawful_old lawful_new none view pasts = both_unseen lock old new user Shared key atomic ops moment words here view pasts
 shared_by true lock old new user key atomic ops moment words here lawful_old lawful_new none view pasts =
     let caller = caller_in user Shared key in
-    let named = named_ops ops words in
-    let guids = guids_at key ops words in
+    let named = ops_at key ops words in
     let apart = apart_by (same user key.owner || is_default key) (participant_view (zone_at (log_of old) key) user) here in
     let here_new : (view_of (log_of new) user Shared key).here ≡ true = subst (λ (v : View). v.here ≡ true) view here in
     let alike : AreSeenAlike user key apart moment named (log_of old) (log_of new) = record {
@@ -215,7 +205,7 @@ shared_by true lock old new user key atomic ops moment words here lawful_old law
       there_new = there-seen (log_of new) user Shared key lawful_new here_new;
     } in
     (λ i. (let s : OpSight = record { view = view i; pasts = pasts i } in
-    modifying s (if not s.view.here || is_judged_as_one key atomic then [] else each_put user key apart moment named (log_of old) (log_of new) guids alike (named_deletes ops words ∙ none) i)))
+    modifying s (if not s.view.here || is_judged_as_one key atomic then [] else each_put user key apart moment named (log_of old) (log_of new) alike (ap deletes_before (named_kinds (lock_of_names key.owner key.zone) ops words) ∙ none) i)))
 
 -- ---- the law
 
@@ -235,7 +225,7 @@ by_seen_alike : (lock : ℕ) (old new : List Event) (part : Part) → are_lawful
 by_seen_alike lock old new (Modify user Private key atomic ops moment words) lawful_old lawful_new rests shown =
     private_by (view_of (log_of old) user Private key).here lock old new user key atomic ops moment words refl lawful_old lawful_new (ap (λ (s : OpSight). s.view) shown) (ap (λ (s : OpSight). s.pasts) shown)
 by_seen_alike lock old new (Modify user Shared key atomic ops moment words) lawful_old lawful_new rests shown =
-    shared_by (view_of (log_of old) user Shared key).here lock old new user key atomic ops moment words refl lawful_old lawful_new (not-true (deletes_before ops) rests)
+    shared_by (view_of (log_of old) user Shared key).here lock old new user key atomic ops moment words refl lawful_old lawful_new (not-true (deletes_before (map (λ (op : Op). op.kind) ops)) rests)
     (ap (λ (s : OpSight). s.view) shown) (ap (λ (s : OpSight). s.pasts) shown)
 by_seen_alike lock old new (Lookup user scope key names) lawful_old lawful_new rests shown = ap viewing shown
 
@@ -244,8 +234,8 @@ sights_decide_all = record {
   answers = λ lock old new part e. ap (λ s. answer lock s part) e;
   others = λ lock old more part all. sight_alike lock (old ++ more) old part (subst (λ l. IsSameZone (key_of part) l (log_of old)) (sym (log-append old more)) (same_behind (key_of part) (log_of old) (log_of more) all));
   at_once = at_once_alike;
-  in_zone = in_zone_alike;
-  by_seen = by_seen_alike;
+  in_zone = λ lock old new part lawful_old lawful_new. in_zone_alike lock old new part (in_turn_back [] (log_of old) lawful_old) (in_turn_back [] (log_of new) lawful_new);
+  by_seen = λ lock old new part lawful_old lawful_new. by_seen_alike lock old new part (in_turn_back [] (log_of old) lawful_old) (in_turn_back [] (log_of new) lawful_new);
 }
 
 pub sights_told : SightsAreTold
@@ -253,13 +243,13 @@ sights_told = record {
   lookup = λ lock events user scope key names. refl;
   as_one = λ lock events user scope key atomic ops moment words one.
       let caller = caller_in user scope key in
-      let before : OpSight = op_sight caller moment (log_of events) (named_ops ops words) in
-      let each : List OpSight = sights_of caller moment (log_of events) (named_ops ops words) (guids_at key ops words) in
+      let before : OpSight = op_sight caller moment (log_of events) (ops_at key ops words) in
+      let each : List OpSight = sights_of caller moment (log_of events) (ops_at key ops words) in
       ap (λ b. modifying before (if not before.view.here || b then [] else each)) one ∙ ap (λ b. modifying before (if b then [] else each)) (always (not before.view.here));
   unseen = unseen_alike;
   apart = λ lock events user scope key atomic ops moment words apart here.
       let caller = caller_in user scope key in
-      let before : OpSight = op_sight caller moment (log_of events) (named_ops ops words) in
-      let each : List OpSight = sights_of caller moment (log_of events) (named_ops ops words) (guids_at key ops words) in
+      let before : OpSight = op_sight caller moment (log_of events) (ops_at key ops words) in
+      let each : List OpSight = sights_of caller moment (log_of events) (ops_at key ops words) in
       λ i. modifying before (if not (here i) || apart i then [] else each);
 }

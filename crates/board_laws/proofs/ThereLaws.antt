@@ -13,7 +13,7 @@ use Rattle.zone_model.specs.Names.{same, same_key, is_default}
 use Rattle.zone_model.specs.Zones.{Zone, zone_at, after_act, puts_at}
 use Rattle.zone_model.specs.Subscriptions.{subscriptions_at}
 use Rattle.zone_model.specs.Views.{is_empty, nowhere, is_visible, participant_view, view_of_zone, view_of}
-use Rattle.zone_model.specs.Lawful.{is_lawful_act, is_lawful, are_lawful}
+use Rattle.zone_laws.specs.LawfulTests.{is_lawful_act, is_lawful, are_lawful}
 use Rattle.zone_laws.proofs.LogLaws.{zone-snoc}
 use Rattle.zone_laws.proofs.EntryLaws.{Grown, empty, one_more, grown}
 use Rattle.zone_laws.proofs.FormedLaws.{lawful-parts, key-true}

@@ -17,7 +17,7 @@ use Rattle.zone_model.specs.Records.{record_at, names_in, is_share, share_of, Is
 use Rattle.zone_model.specs.Ancestry.{IsAncestor, is_ancestor}
 use Rattle.zone_model.specs.Coverage.{covers}
 use Rattle.zone_model.specs.Views.{is_visible}
-use Rattle.zone_model.specs.Lawful.{is_plain, has_good_parent, fits_in, are_well_formed}
+use Rattle.zone_laws.specs.LawfulTests.{is_plain, has_good_parent, fits_in, are_well_formed}
 use Rattle.zone_laws.proofs.AncestryLaws.{is_ancestor_from, is_ancestor_gives, record_reaches, gives_at-records}
 use Rattle.zone_laws.proofs.RecordLaws.{none-some, found-name, found-below, found-all, later_step}
 use Rattle.zone_laws.proofs.FormedLaws.{found-some, found-among}

@@ -10,18 +10,18 @@ use Rattle.zone_model.specs.declared.events.Event.{Event}
 use Rattle.zone_model.specs.Names.{has_twice}
 use Rattle.zone_model.specs.Records.{record_at}
 use Rattle.zone_model.specs.Zones.{zone_at}
-use Rattle.zone_model.specs.Requests.{Caller, roots_in}
-use Rattle.zone_model.specs.Lawful.{are_lawful}
+use Rattle.zone_model.specs.Requests.{roots_in}
+use Rattle.zone_model.specs.Lawful.{MayFollowInTurn}
 use Rattle.zone_laws.specs.Answering.{has_written}
+use Rattle.zone_laws.specs.Stepping.{tells_written_at}
 use Rattle.zone_model.specs.Views.{view_of}
-use Rattle.zone_model.specs.Modifying.{is_judged_as_one, modified, Step, steps, step_done}
+use Rattle.zone_model.specs.Modifying.{is_judged_as_one, modified, steps}
 use Rattle.zone_model.specs.Events.{log_of}
-use Rattle.drawn_names.specs.Drawing.{named_ops}
 use Rattle.board_model.specs.declared.parts.Part.{Part}
 use Rattle.board_model.specs.declared.parts.Part.TheVariants.{Modify, Lookup}
 use Rattle.board_model.specs.declared.answers.Answer.{Answer}
 use Rattle.board_model.specs.declared.answers.Answer.TheVariants.{Modify as ModifyAnswer, Lookup as LookupAnswer, NoZone, StoreFailed}
-use Rattle.board_model.specs.Asks.{Append, stored, failed, caller_in, guids_at, sight, answer, commits_by, made, makes, told}
+use Rattle.board_model.specs.Asks.{Append, stored, failed, caller_in, sight, answer, commits_by, made, makes, told, ops_at}
 
 -- the answer to a part at a history
 abbrev pub answer_at : ℕ → List Event → Part → Answer
@@ -34,7 +34,7 @@ view_for events (Lookup user scope key names) = view_of (log_of events) user sco
 
 -- what the operations come to at a history, with their drawn names
 abbrev pub modified_at : List Event → List ℕ → Scope → ZoneKey → Bool → List Op → ℕ → List (List ℕ) → Modified
-modified_at events user scope key atomic ops moment words = modified (caller_in user scope key) moment (log_of events) atomic (named_ops ops words) (guids_at key ops words)
+modified_at events user scope key atomic ops moment words = modified (caller_in user scope key) moment (log_of events) atomic (ops_at key ops words)
 
 -- Where its store does not fail: of a zone that the user sees, a modify is answered with the outcomes of its operations, and a lookup with the records of the user's view.
 -- Just of a zone that the user doesn't see it is told so.
@@ -65,21 +65,17 @@ pub record FailuresAreTold : Type 0 where
   pub stored_told : (lock seat : ℕ) (events : List Event) (part : Part) (a : Answer) → told (made stored lock seat events part) a ≡ a
   pub idle : (append : Append) (lock seat : ℕ) (events : List Event) (part : Part) → makes (commits_by lock events part) ≡ false → made append lock seat events part ≡ []
 
--- an operation that is done by itself tells of something written
-abbrev pub has_written_by : Caller → ℕ → Step → Bool
-has_written_by caller moment s = list_any (has_written (view_of s.log caller.user caller.scope caller.key).rows) (step_done caller moment s).outcomes
-
 -- Of a zone that is there and that the user sees, a modify makes something just where some outcome tells of something written: by what is seen
 -- before the request where it is judged as one, and else before the operation.
 pub record MadeWhereTold : Type 0 where
   pub as_one : (lock : ℕ) (events : List Event) (user : List ℕ) (scope : Scope) (key : ZoneKey) (atomic : Bool) (ops : List Op) (moment : ℕ) (words : List (List ℕ))
       → is_judged_as_one key atomic ≡ true
-      → are_lawful [] (log_of events) ≡ true → (zone_at (log_of events) key).there ≡ true → has_twice (roots_in (named_ops ops words)) ≡ false
+      → MayFollowInTurn [] (log_of events) → (zone_at (log_of events) key).there ≡ true → has_twice (roots_in (ops_at key ops words)) ≡ false
       → (view_of (log_of events) user scope key).here ≡ true
       → makes (commits_by lock events (Modify user scope key atomic ops moment words))
       ≡ list_any (has_written (view_of (log_of events) user scope key).rows) (modified_at events user scope key atomic ops moment words).outcomes
   pub apart : (lock : ℕ) (events : List Event) (user : List ℕ) (scope : Scope) (key : ZoneKey) (atomic : Bool) (ops : List Op) (moment : ℕ) (words : List (List ℕ))
       → is_judged_as_one key atomic ≡ false
-      → are_lawful [] (log_of events) ≡ true → (zone_at (log_of events) key).there ≡ true → (view_of (log_of events) user scope key).here ≡ true
+      → MayFollowInTurn [] (log_of events) → (zone_at (log_of events) key).there ≡ true → (view_of (log_of events) user scope key).here ≡ true
       → makes (commits_by lock events (Modify user scope key atomic ops moment words))
-      ≡ list_any (has_written_by (caller_in user scope key) moment) (steps (caller_in user scope key) moment (log_of events) (named_ops ops words) (guids_at key ops words))
+      ≡ list_any (tells_written_at (caller_in user scope key) moment) (steps (caller_in user scope key) moment (log_of events) (ops_at key ops words))

@@ -9,10 +9,10 @@ use Rattle.zone_model.specs.declared.events.Event.{Event}
 use Rattle.zone_model.specs.declared.events.Event.TheVariants.{Made, StoreFailed}
 use Rattle.zone_model.specs.Records.{record_at}
 use Rattle.zone_model.specs.Views.{view_of}
-use Rattle.zone_model.specs.Requests.{Caller}
+use Rattle.zone_model.specs.Requests.{Caller, NamedOp}
 use Rattle.zone_model.specs.Modifying.{is_judged_as_one, commits_of_request}
 use Rattle.zone_model.specs.Events.{log_of, own}
-use Rattle.drawn_names.specs.Drawing.{named_ops, guids_of}
+use Rattle.drawn_names.specs.Drawing.{named_ops}
 use Rattle.board_model.specs.declared.parts.Part.{Part}
 use Rattle.board_model.specs.declared.parts.Part.TheVariants.{Modify, Lookup}
 use Rattle.board_model.specs.declared.answers.Answer.{Answer}
@@ -22,9 +22,9 @@ use Rattle.board_model.specs.Sights.{Sight, modifying, viewing, op_sight, sights
 abbrev pub caller_in : List ℕ → Scope → ZoneKey → Caller
 caller_in user scope key = record { user = user; scope = scope; key = key }
 
--- the GUIDs that words make for the shares of a zone
-abbrev pub guids_at : ZoneKey → List Op → List (List ℕ) → List (List ℕ)
-guids_at key ops words = guids_of (lock_of_names key.owner key.zone) ops words
+-- the operations with their names, and the GUIDs that words make for the shares of a zone
+abbrev pub ops_at : ZoneKey → List Op → List (List ℕ) → List NamedOp
+ops_at key ops words = named_ops (lock_of_names key.owner key.zone) ops words
 
 -- Each of these takes the lock that is asked beside the part, since a part need not tell it.
 
@@ -32,16 +32,16 @@ guids_at key ops words = guids_of (lock_of_names key.owner key.zone) ops words
 abbrev pub sight : ℕ → List Event → Part → Sight
 sight lock events (Modify user scope key atomic ops moment words) =
     let caller = caller_in user scope key in
-    let named = named_ops ops words in
+    let named = ops_at key ops words in
     let before = op_sight caller moment (log_of events) named in
-    modifying before (if not before.view.here || is_judged_as_one key atomic then [] else sights_of caller moment (log_of events) named (guids_at key ops words))
+    modifying before (if not before.view.here || is_judged_as_one key atomic then [] else sights_of caller moment (log_of events) named)
 sight lock events (Lookup user scope key names) = viewing (view_of (log_of events) user scope key)
 
 -- what it answers
 abbrev pub answer : ℕ → Sight → Part → Answer
 answer lock (modifying before each) (Modify user scope key atomic ops moment words) =
     if before.view.here
-    then ModifyAnswer (outcomes_by (caller_in user scope key) moment atomic before each (named_ops ops words) (guids_at key ops words))
+    then ModifyAnswer (outcomes_by (caller_in user scope key) moment atomic before each (ops_at key ops words))
     else NoZone
 answer lock (modifying before each) (Lookup user scope key names) = NoZone
 answer lock (viewing view) (Modify user scope key atomic ops moment words) = NoZone
@@ -51,7 +51,7 @@ answer lock (viewing view) (Lookup user scope key names) = if view.here then Loo
 abbrev pub commits_by : ℕ → List Event → Part → List Commit
 commits_by lock events (Modify user scope key atomic ops moment words) =
     if (view_of (log_of events) user scope key).here
-    then commits_of_request (caller_in user scope key) moment (log_of events) atomic (named_ops ops words) (guids_at key ops words)
+    then commits_of_request (caller_in user scope key) moment (log_of events) atomic (ops_at key ops words)
     else []
 commits_by lock events (Lookup user scope key names) = []
 

@@ -130,9 +130,16 @@ saw_at before mid after found new ticket seat count (Err e) t is h = record {
 elsewhere : {A : Type 0} (nothing x y : A) (k : ℕ) → k ≢ 13 → only_there nothing x k ≡ only_there nothing y k
 elsewhere nothing x y k ne = ap (λ b. cond b x nothing) (ne_eqb k 13 ne) ∙ sym (ap (λ b. cond b y nothing) (ne_eqb k 13 ne))
 
+not_none : (before after : List Event) (e : Event) → [] ≡ before ++ e ∷ after → ⊥
+not_none [] after e is = cc (is)
+not_none (b ∷ before) after e is = cc (is)
+
+pub none_legal : (k : ℕ) → IsLegal k []
+none_legal k = λ before e after is. absurd (not_none before after e is)
+
 legal_by : (events : List Event) (k : ℕ) (b : Bool) → (k == 13) ≡ b → IsLegal 13 events → IsLegal k (only_there [] events k)
 legal_by events k true is h = rw is (subst (λ n. IsLegal n events) (sym (eqb-true k 13 is)) h)
-legal_by events k false is h = rw is (record { follows = refl; formed = tt })
+legal_by events k false is h = rw is (none_legal k)
 
 pub only_legal : (k : Known Event × List ℕ) → IsLegal 13 k.0.seen → AreLegal (at_lock k).histories
 only_legal k h lock = legal_by k.0.seen lock (lock == 13) refl h

@@ -1,7 +1,6 @@
 // How many random words operations draw.
 ghost use Rattle.std.specs.Prelude.{◌≡◌, ◌≤◌};
-ghost use Rattle.drawn_names.specs.Drawing.{draws_name, one_if, words_for, words_drawn};
-ghost use Rattle.zone_model.specs.Requests.{draws_guid};
+ghost use Rattle.drawn_names.specs.Drawing.{draws_name, draws_guid, one_if, words_for, words_drawn};
 
 use crate::is_deletion;
 use zone_model::{Op, OpKind};

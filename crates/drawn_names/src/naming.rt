@@ -2,9 +2,9 @@
 ghost use Rattle.std.specs.Prelude.{◌≡◌, ◌<◌, ◌||◌, true, is_some, IfOk, length};
 ghost use Rattle.std.specs.List.{AllByRecursion};
 ghost use Rattle.ck_base.specs.Names.{IsName};
-ghost use Rattle.drawn_names.specs.Drawing.{draws_name, words_drawn, name_of_word, first_word, with_name, named_by, names_of};
+ghost use Rattle.drawn_names.specs.Drawing.{draws_name, words_drawn, name_of_word, drawn_name, names_of};
 ghost use Rattle.zone_model.specs.OpForms.{IsMeantOp};
-ghost use Rattle.zone_model.specs.Requests.{is_create, name_of_op};
+ghost use Rattle.zone_model.specs.Requests.{is_create};
 
 use crate::words_for;
 use ck_base::{Items, NoMemory, RecordName, RecordNames, record_name};
@@ -30,8 +30,7 @@ pub fn name_of_word(alloc: Global, word: &[u8; 16]) -> Result<RecordName, NoMemo
 pub fn name_for(alloc: Global, op: &Op, words: &[[u8; 16]]) -> Result<RecordName, NoMemory>
     requires named { (is_create op.now.kind || is_some op.now.draft.name) ≡ true }
     requires word { draws_name op.now ≡ true → 0 < length words.now }
-    ensures name { IfOk result (λ name. name ≡ name_of_op (named_by op.now (first_word words.now))) }
-    ensures written_in { IfOk result (λ name. with_name op.now name ≡ named_by op.now (first_word words.now)) }
+    ensures { IfOk result (λ name. name ≡ drawn_name op.now words.now) }
 {
     match &op.draft.name {
         Some(name) => Ok(name.clone()?),

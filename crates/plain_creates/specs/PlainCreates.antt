@@ -18,7 +18,7 @@ use Rattle.zone_model.specs.Limits.{most_record_size}
 use Rattle.name_rules.specs.Options.{is_none_or}
 use Rattle.zone_model.specs.Records.{is_there}
 use Rattle.zone_model.specs.References.{references_in}
-use Rattle.zone_model.specs.Requests.{Caller, is_create, name_of_draft, has_share_type}
+use Rattle.zone_model.specs.Requests.{Caller, NamedOp, is_create, has_share_type}
 use Rattle.zone_model.specs.Putting.{after_wishes, no_stamp}
 
 -- the caller owns the zone and asks in the private scope
@@ -51,12 +51,16 @@ is_plain_draft d =
 abbrev pub is_plain_create : Op → Bool
 is_plain_create op = is_create op.kind && is_plain_draft op.draft
 
+-- it is such a create, with its name
+abbrev pub is_plain_named : NamedOp → Bool
+is_plain_named op = is_create op.kind && is_plain_draft op.draft
+
 -- ---- what they come to
 
--- the record that the draft describes, without tag and stamps
-abbrev pub drafted_record : Draft → Record
-drafted_record d = record {
-  name = name_of_draft d;
+-- the record of a name that the draft describes, without tag and stamps
+abbrev pub drafted_record : List ℕ → Draft → Record
+drafted_record name d = record {
+  name = name;
   rtype = unwrap_or d.rtype [];
   tag = 0;
   parent = None;
@@ -68,16 +72,16 @@ drafted_record d = record {
 }
 
 -- the record that is put, where the names were put so often before
-abbrev pub created_record : List ℕ → ℕ → (List ℕ → ℕ) → Draft → Record
-created_record user moment puts d =
+abbrev pub created_record : List ℕ → ℕ → (List ℕ → ℕ) → List ℕ → Draft → Record
+created_record user moment puts name d =
     let now : Stamp = record { moment = moment; user = user } in
-    record (drafted_record d) { tag = suc (puts (name_of_draft d)); created = now; modified = now }
+    record (drafted_record name d) { tag = suc (puts name); created = now; modified = now }
 
 abbrev pub is_too_large : Draft → Bool
-is_too_large d = nat_lt most_record_size (size_of_record (drafted_record d))
+is_too_large d = nat_lt most_record_size (size_of_record (drafted_record [] d))
 
 -- the name is taken, or else the draft has no type or is too large
-abbrev pub refusal_of_create : List Record → Draft → Option OpFault
-refusal_of_create rows d =
-    if is_there rows (name_of_draft d) then Some Exists
+abbrev pub refusal_of_create : List Record → List ℕ → Draft → Option OpFault
+refusal_of_create rows name d =
+    if is_there rows name then Some Exists
     else (if is_none d.rtype || is_too_large d then Some BadRequest else None)

@@ -2,7 +2,6 @@
 use Rattle.std.proofs.Common.{◌≡◌, ℕ, List, [], ◌∷◌, ◌++◌, length, Bool, true, false, not, ◌&&◌, refl, sym, ap, ◌∙◌, subst, map, Option, ◌≤◌, arith}
 use Rattle.std.specs.Prelude.{◌||◌, if◌then◌else◌}
 use Rattle.std.specs.List.{list_all, AllByRecursion}
-use Rattle.ck_base.specs.Names.{lock_of_names}
 use Rattle.ck_base.specs.declared.key.ZoneKey.{ZoneKey}
 use Rattle.ck_base.specs.declared.scope.Scope.{Scope}
 use Rattle.ck_base.specs.declared.scope.Scope.TheVariants.{Private}
@@ -17,24 +16,23 @@ use Rattle.zone_model.specs.Records.{record_at}
 use Rattle.zone_model.specs.Zones.{zone_at}
 use Rattle.zone_model.specs.Views.{view_of}
 use Rattle.zone_model.specs.Events.{log_of}
-use Rattle.zone_model.specs.Requests.{Caller}
+use Rattle.zone_model.specs.Requests.{Caller, NamedOp}
 use Rattle.zone_model.specs.Modifying.{is_judged_as_one, modified_as_one, modified_apart, commits_of_request}
 use Rattle.plain_creates.specs.PlainCreates.{IsOwner, is_plain_create}
 use Rattle.plain_creates.specs.OnePuts.{IsOnePut, last_put}
 use Rattle.zone_laws.proofs.LegalLaws.{histories_legal}
 use Rattle.zone_laws.proofs.OnePutLaws.{puts_found}
-use Rattle.drawn_names.specs.Drawing.{named_ops}
 use Rattle.board_model.specs.declared.parts.Part.{Part}
 use Rattle.board_model.specs.declared.parts.Part.TheVariants.{Modify, Lookup}
 use Rattle.board_model.specs.declared.answers.Answer.{Answer}
 use Rattle.board_model.specs.declared.answers.Answer.TheVariants.{Modify as ModifyAnswer, Lookup as LookupAnswer, NoZone}
 use Rattle.board_model.specs.Sights.{OpSight, op_sight, sights_of, outcomes_as_one, outcomes_apart, outcomes_by}
-use Rattle.board_model.specs.Asks.{stored, caller_in, guids_at, sight, answer, commits_by, event_of, made, makes}
+use Rattle.board_model.specs.Asks.{stored, caller_in, ops_at, sight, answer, commits_by, event_of, made, makes}
 use Rattle.board_model.specs.Parts.{MayBeAsked}
 use Rattle.zone_board.specs.declared.create.Asking.{Asking}
 use Rattle.zone_board.specs.Kept.{IsKept, IsCreation}
 use Rattle.zone_board.specs.Askings.{caller_of, all_done}
-use Rattle.zone_board.proofs.PlainLemmas.{no_guids, plain_named, length_named}
+use Rattle.zone_board.proofs.PlainLemmas.{plain_named, length_named}
 use Rattle.zone_board.proofs.SightLemmas.{default_there, view_is, seen_apart}
 use Rattle.zone_board.proofs.LegalLemmas.{few_made, lawful_made, kept_more}
 
@@ -63,41 +61,34 @@ module _ (events : List Event) (user : List ℕ) (key : ZoneKey) (by_owner : use
   -- ---- modifications
 
   module _ (atomic : Bool) (ops : List Op) (moment : ℕ) (words : List (List ℕ)) (plain : list_all is_plain_create ops ≡ true) where
-    abbrev its_ops : List Op
-    its_ops = named_ops ops words
+    abbrev its_ops : List NamedOp
+    its_ops = ops_at key ops words
 
     abbrev its_part : Part
     its_part = Modify user Private key atomic ops moment words
 
     abbrev apart : Modified
-    apart = modified_apart its_caller moment (log_of events) its_ops []
+    apart = modified_apart its_caller moment (log_of events) its_ops
 
     one_off : (b : Bool) → (b && not (is_default key)) ≡ false
     one_off true = ap not default
     one_off false = refl
 
-    none_drawn : guids_at key ops words ≡ []
-    none_drawn = no_guids (lock_of_names key.owner key.zone) ops words plain
-
     told : (lock : ℕ) → answer lock (sight lock events its_part) its_part ≡ ModifyAnswer apart.outcomes
     told lock =
-        let guids = guids_at key ops words in
         let before : OpSight = op_sight its_caller moment (log_of events) its_ops in
-        let each : List OpSight = sights_of its_caller moment (log_of events) its_ops guids in
-        ap (λ (v : View). if v.here then ModifyAnswer (outcomes_by its_caller moment atomic before (if not v.here || is_judged_as_one key atomic then [] else each) its_ops guids) else NoZone) viewed
-        ∙ ap (λ b. ModifyAnswer (if b then outcomes_as_one its_caller moment before its_ops guids else outcomes_apart its_caller moment (if b then [] else each) its_ops guids)) (one_off atomic)
-        ∙ ap (λ gs. ModifyAnswer (outcomes_apart its_caller moment (sights_of its_caller moment (log_of events) its_ops gs) its_ops gs)) none_drawn
-        ∙ ap ModifyAnswer (seen_apart its_caller owns moment default its_ops (log_of events) [] (plain_named ops words plain) ones)
+        let each : List OpSight = sights_of its_caller moment (log_of events) its_ops in
+        ap (λ (v : View). if v.here then ModifyAnswer (outcomes_by its_caller moment atomic before (if not v.here || is_judged_as_one key atomic then [] else each) its_ops) else NoZone) viewed
+        ∙ ap (λ b. ModifyAnswer (if b then outcomes_as_one its_caller moment before its_ops else outcomes_apart its_caller moment (if b then [] else each) its_ops)) (one_off atomic)
+        ∙ ap ModifyAnswer (seen_apart its_caller owns moment default its_ops (log_of events) (plain_named key ops words plain) ones)
 
     committed : (lock : ℕ) → commits_by lock events its_part ≡ apart.commits
     committed lock =
-        let guids = guids_at key ops words in
-        ap (λ (v : View). if v.here then commits_of_request its_caller moment (log_of events) atomic its_ops guids else []) viewed
-        ∙ ap (λ b. (if b then modified_as_one its_caller moment (log_of events) its_ops guids else modified_apart its_caller moment (log_of events) its_ops guids).commits) (one_off atomic)
-        ∙ ap (λ gs. (modified_apart its_caller moment (log_of events) its_ops gs).commits) none_drawn
+        ap (λ (v : View). if v.here then commits_of_request its_caller moment (log_of events) atomic its_ops else []) viewed
+        ∙ ap (λ b. (if b then modified_as_one its_caller moment (log_of events) its_ops else modified_apart its_caller moment (log_of events) its_ops).commits) (one_off atomic)
 
 -- what creations come to
-pub all_is : (asking : Asking) (log : List Commit) (ops : List Op) → all_done asking log ops ≡ modified_apart (caller_of asking) asking.moment log ops []
+pub all_is : (asking : Asking) (log : List Commit) (ops : List NamedOp) → all_done asking log ops ≡ modified_apart (caller_of asking) asking.moment log ops
 unfolding all_done
 all_is asking log ops = refl
 
@@ -118,13 +109,13 @@ module _ (lock : ℕ) (events : List Event) (part : Part) (may : MayBeAsked lock
   module _ (atomic : Bool) (ops : List Op) (moment : ℕ) (words : List (List ℕ)) (is : part ≡ Modify user scope key atomic ops moment words) (ops_done : List Op) (words_drawn : List (List ℕ))
       (ops_are : ops_done ≡ ops) (words_are : words_drawn ≡ words) (asking : Asking) (caller_is : caller_of asking ≡ caller_in user Private key) (moment_is : asking.moment ≡ moment) where
     abbrev all_apart : Modified
-    all_apart = modified_apart (caller_in user Private key) moment (log_of events) (named_ops ops words) []
+    all_apart = modified_apart (caller_in user Private key) moment (log_of events) (ops_at key ops words)
 
     abbrev its_done : Modified
-    its_done = all_done asking (log_of events) (named_ops ops_done words_drawn)
+    its_done = all_done asking (log_of events) (ops_at asking.key.now ops_done words_drawn)
 
     done_is : its_done ≡ all_apart
-    done_is = all_is asking (log_of events) (named_ops ops_done words_drawn) ∙ (λ i. modified_apart (caller_is i) (moment_is i) (log_of events) (named_ops (ops_are i) (words_are i)) [])
+    done_is = all_is asking (log_of events) (ops_at asking.key.now ops_done words_drawn) ∙ (λ i. modified_apart (caller_is i) (moment_is i) (log_of events) (ops_at (caller_is i).key (ops_are i) (words_are i)))
 
     part_is : part ≡ Modify user Private key atomic ops moment words
     part_is = is ∙ ap (λ s. Modify user s key atomic ops moment words) (subst (MayBeAsked lock) is may).0.in_private
@@ -152,9 +143,9 @@ module _ (lock : ℕ) (events : List Event) (part : Part) (may : MayBeAsked lock
     modify_keeps seat new formed new_is kept =
         let mine = subst (MayBeAsked lock) is may in
         let caller = caller_in user Private key in
-        let named = named_ops ops words in
+        let named = ops_at key ops words in
         let all_formed : AllByRecursion (IsCreation key) all_apart.commits = subst (λ (m : Modified). AllByRecursion (IsCreation key) m.commits) done_is formed in
         let grown : new ≡ events ++ event_of stored seat events all_apart.commits = new_is ∙ ap (λ (m : Modified). events ++ event_of stored seat events m.commits) done_is in
-        let few : length all_apart.commits ≤ 200 = omega (arith, few_made caller moment named (log_of events) [], length_named ops words, mine.1.meant.few) in
-        let lawful = lawful_made caller moment (log_of events) named (histories_legal.lawful lock events kept.legal) (default_there (log_of events) key mine.0.in_default ones) (plain_named ops words mine.1.plain) in
+        let few : length all_apart.commits ≤ 200 = omega (arith, few_made caller moment named (log_of events), length_named key ops words, mine.1.meant.few) in
+        let lawful = lawful_made caller moment (log_of events) named (histories_legal.lawful lock events kept.legal) (default_there (log_of events) key mine.0.in_default ones) (plain_named key ops words mine.1.plain) in
         subst (IsKept lock) (sym grown) (kept_more lock seat events key all_apart.commits kept mine.0.of_lock all_formed few lawful)

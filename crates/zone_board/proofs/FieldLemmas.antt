@@ -15,7 +15,6 @@ use Rattle.zone_model.specs.Putting.{after_wish, after_wishes}
 use Rattle.plain_creates.specs.PlainCreates.{drafted_record, created_record, is_too_large}
 use Rattle.zone_laws.proofs.NameLaws.{before-asym, same-sym_false}
 use Rattle.zone_laws.proofs.RecordLaws.{before_differs}
-use Rattle.drawn_names.specs.Drawing.{draft_with}
 use Rattle.zone_board.specs.Creations.{given_field, given_fields, first_of_type, first_record}
 
 -- ---- fields
@@ -99,17 +98,17 @@ given wishes are = given_after [] wishes (all_after_none (names_of wishes)) are.
 
 module _ (user : List ℕ) (moment : ℕ) (name rtype : List ℕ) (d : Draft) (row : Record) (typed : d.rtype ≡ Some rtype) (are : AreWishes d.fields)
     (wishes : List Wish) (same_wishes : wishes ≡ d.fields) (is : row ≡ first_of_type user moment name rtype (given_fields wishes)) where
-  created_is : created_record user moment (λ _. 0) (draft_with d name) ≡ row
+  created_is : created_record user moment (λ _. 0) name d ≡ row
   created_is = (λ i. first_of_type user moment name (unwrap_or (typed i) []) (given d.fields are i)) ∙ ap (λ ws. first_of_type user moment name rtype (given_fields ws)) (sym same_wishes) ∙ sym is
 
-  size_is : size_of_record (drafted_record (draft_with d name)) ≡ size_of_record row
+  size_is : size_of_record (drafted_record name d) ≡ size_of_record row
   size_is = ap size_of_record created_is
 
-  first_by : (large : Bool) → is_too_large (draft_with d name) ≡ large → first_record user moment (draft_with d name) ≡ (if large then None else Some row)
+  first_by : (large : Bool) → is_too_large d ≡ large → first_record user moment name d ≡ (if large then None else Some row)
   first_by large e i = if is_none (typed i) || e i then None else Some (created_is i)
 
-  pub too_large : (size : ℕ) → size ≡ min (size_of_record row) (2 ^ 64 - 1) → most_record_size < size → None ≡ first_record user moment (draft_with d name)
+  pub too_large : (size : ℕ) → size ≡ min (size_of_record row) (2 ^ 64 - 1) → most_record_size < size → None ≡ first_record user moment name d
   too_large size told over = sym (first_by true (ap (nat_lt most_record_size) size_is ∙ lt-ltb most_record_size (size_of_record row) (omega arith)))
 
-  pub is_first : (size : ℕ) → size ≡ min (size_of_record row) (2 ^ 64 - 1) → size ≤ most_record_size → Some row ≡ first_record user moment (draft_with d name)
+  pub is_first : (size : ℕ) → size ≡ min (size_of_record row) (2 ^ 64 - 1) → size ≤ most_record_size → Some row ≡ first_record user moment name d
   is_first size told within = sym (first_by false (ap (nat_lt most_record_size) size_is ∙ le-ltb most_record_size (size_of_record row) (omega arith)))

@@ -1,5 +1,5 @@
 -- Creations, one after another.
-use Rattle.std.proofs.Common.{◌≡◌, ℕ, suc, ◌+◌, ◌<◌, ◌≤◌, List, [], ◌∷◌, ◌++◌, true, length, drop, sym, ap, ◌∙◌, subst, append-nil, append_assoc, add-one, drop-cons, get_or, arith}
+use Rattle.std.proofs.Common.{refl, ◌≡◌, ℕ, suc, ◌+◌, ◌<◌, ◌≤◌, List, [], ◌∷◌, ◌++◌, true, length, drop, sym, ap, ◌∙◌, subst, append-nil, append_assoc, add-one, drop-cons, get_or, arith}
 use Rattle.std.specs.List.{list_all, AllByRecursion}
 use Rattle.std.proofs.lemmas.Bool.{and_parts}
 use Rattle.std.proofs.lemmas.List.{length-drop, drop-drop}
@@ -8,20 +8,23 @@ use Rattle.zone_model.specs.declared.operations.Op.{Op}
 use Rattle.zone_model.specs.declared.commits.Commit.{Commit}
 use Rattle.zone_model.specs.declared.outcomes.Outcome.{Outcome}
 use Rattle.zone_model.specs.declared.outcomes.Modified.{Modified}
-use Rattle.zone_model.specs.Modifying.{modified_apart}
+use Rattle.ck_base.specs.Names.{lock_of_names}
+use Rattle.zone_model.specs.Requests.{NamedOp}
 use Rattle.plain_creates.specs.OnePuts.{IsOnePut}
 use Rattle.plain_creates.specs.PlainCreates.{is_plain_create}
-use Rattle.drawn_names.specs.Drawing.{words_for, words_drawn, first_word, words_after, with_name, named_by, named_ops}
-use Rattle.zone_model.specs.OpForms.{IsMeantOp}
+use Rattle.drawn_names.specs.Drawing.{words_for, words_drawn, words_after, drawn_name, named_by}
+use Rattle.zone_model.specs.OpForms.{IsMeantWhere, IsMeantOp}
+use Rattle.record_model.specs.DraftForms.{IsMeantDraft}
+use Rattle.board_model.specs.Asks.{ops_at}
 use Rattle.zone_board.specs.declared.create.Asking.{Asking}
 use Rattle.zone_board.specs.Kept.{IsCreation}
-use Rattle.zone_board.specs.Askings.{caller_of, one_done, all_done}
-use Rattle.zone_board.proofs.PlainLemmas.{all_joined, all_weaker, none_left}
+use Rattle.zone_board.specs.Askings.{with_name, one_done, all_done}
+use Rattle.zone_board.proofs.PlainLemmas.{all_joined, all_weaker, no_deletion, no_guid}
 
 -- what was made and answered so far, with what comes of the operations and words that are left, is what comes of all
 pub record IsUnderWay (asking : Asking) (log : List Commit) (ops left : List Op) (words rest : List (List ℕ)) (commits : List Commit) (outcomes : List Outcome) : Type 0 where
-  pub made : commits ++ (all_done asking (log ++ commits) (named_ops left rest)).commits ≡ (all_done asking log (named_ops ops words)).commits
-  pub told : outcomes ++ (all_done asking (log ++ commits) (named_ops left rest)).outcomes ≡ (all_done asking log (named_ops ops words)).outcomes
+  pub made : commits ++ (all_done asking (log ++ commits) (ops_at asking.key.now left rest)).commits ≡ (all_done asking log (ops_at asking.key.now ops words)).commits
+  pub told : outcomes ++ (all_done asking (log ++ commits) (ops_at asking.key.now left rest)).outcomes ≡ (all_done asking log (ops_at asking.key.now ops words)).outcomes
   pub formed : AllByRecursion (IsCreation asking.key.now) commits
   pub plain : list_all is_plain_create left ≡ true
   pub meant : AllByRecursion IsMeantOp left
@@ -30,8 +33,8 @@ pub record IsUnderWay (asking : Asking) (log : List Commit) (ops left : List Op)
 pub under_way : (asking : Asking) (log : List Commit) (ops : List Op) (words : List (List ℕ)) → list_all is_plain_create ops ≡ true → AllByRecursion IsMeantOp ops → length words ≡ words_drawn ops
     → IsUnderWay asking log ops ops words words [] []
 under_way asking log ops words plain meant enough = record {
-  made = ap (λ l. (all_done asking l (named_ops ops words)).commits) (append-nil log);
-  told = ap (λ l. (all_done asking l (named_ops ops words)).outcomes) (append-nil log);
+  made = ap (λ l. (all_done asking l (ops_at asking.key.now ops words)).commits) (append-nil log);
+  told = ap (λ l. (all_done asking l (ops_at asking.key.now ops words)).outcomes) (append-nil log);
   formed = tt;
   plain = plain;
   meant = meant;
@@ -43,26 +46,26 @@ pub ones_more : (asking : Asking) (log commits : List Commit) → AllByRecursion
 ones_more asking log commits ones formed = all_joined IsOnePut log commits ones (all_weaker (IsCreation asking.key.now) IsOnePut commits (λ c is. is.one) formed)
 
 -- what comes of one operation and then of others
-first_done : (asking : Asking) (log : List Commit) (op : Op) (ops : List Op)
+first_done : (asking : Asking) (log : List Commit) (op : NamedOp) (ops : List NamedOp)
     → all_done asking log (op ∷ ops)
     ≡ record {
       outcomes = (one_done asking log op).outcomes ++ (all_done asking (log ++ (one_done asking log op).commits) ops).outcomes;
       commits = (one_done asking log op).commits ++ (all_done asking (log ++ (one_done asking log op).commits) ops).commits;
     }
 unfolding one_done all_done
-first_done asking log op ops =
-    let first = one_done asking log op in
-    ap (λ guids.
-    let rest = modified_apart (caller_of asking) asking.moment (log ++ first.commits) ops guids in
-    record { outcomes = first.outcomes ++ rest.outcomes; commits = first.commits ++ rest.commits }) (none_left op)
+first_done asking log op ops = refl
+
+-- an operation that draws no GUID is the one with its name
+named_as : (lock : ℕ) (op : Op) (rest : List (List ℕ)) (name : List ℕ) → is_plain_create op ≡ true → name ≡ drawn_name op rest → with_name op name ≡ named_by lock (op, rest)
+named_as lock op rest name plain named i = record { kind = op.kind; draft = op.draft; name = named i; guid = sym (no_guid lock op rest plain) i }
 
 words_more : (n : ℕ) (ws : List (List ℕ)) (m : ℕ) → length ws ≡ n + m → length (drop n ws) ≡ m
 words_more n ws m e = omega (arith, e, length-drop n ws)
 
 module _ (asking : Asking) (log : List Commit) (ops : List Op) (op : Op) (left : List Op) (words rest : List (List ℕ)) (commits : List Commit) (outcomes : List Outcome)
     (way : IsUnderWay asking log ops (op ∷ left) words rest commits outcomes) where
-  abbrev named_op : Op
-  named_op = named_by op (first_word rest)
+  abbrev named_op : NamedOp
+  named_op = named_by (lock_of_names asking.key.now.owner asking.key.now.zone) (op, rest)
 
   abbrev its_log : List Commit
   its_log = log ++ commits
@@ -70,8 +73,8 @@ module _ (asking : Asking) (log : List Commit) (ops : List Op) (op : Op) (left :
   abbrev its_done : Modified
   its_done = one_done asking its_log named_op
 
-  abbrev later : List Op
-  later = named_ops left (words_after op rest)
+  abbrev later : List NamedOp
+  later = ops_at asking.key.now left (words_after op rest)
 
   done_more : AllByRecursion (IsCreation asking.key.now) its_done.commits
       → IsUnderWay asking log ops left words (words_after op rest) (commits ++ its_done.commits) (outcomes ++ its_done.outcomes)
@@ -93,13 +96,14 @@ module _ (asking : Asking) (log : List Commit) (ops : List Op) (op : Op) (left :
       }
 
   -- one operation more, with its name
-  pub one_more : (name : List ℕ) (outcome : Outcome) (made : List Commit) (told : List Outcome) → with_name op name ≡ named_op
+  pub one_more : (name : List ℕ) (outcome : Outcome) (made : List Commit) (told : List Outcome) → name ≡ drawn_name op rest
       → (one_done asking its_log (with_name op name)).outcomes ≡ outcome ∷ []
       → made ≡ commits ++ (one_done asking its_log (with_name op name)).commits
       → AllByRecursion (IsCreation asking.key.now) (one_done asking its_log (with_name op name)).commits
       → told ≡ outcomes ++ outcome ∷ []
       → IsUnderWay asking log ops left words (words_after op rest) made told
-  one_more name outcome made told named outcome_is made_is formed told_is =
+  one_more name outcome made told named_is outcome_is made_is formed told_is =
+      let named : with_name op name ≡ named_op = named_as (lock_of_names asking.key.now.owner asking.key.now.zone) op rest name (and_parts (is_plain_create op) _ way.plain).0 named_is in
       let formed_named = subst (λ n. AllByRecursion (IsCreation asking.key.now) (one_done asking its_log n).commits) named formed in
       let made_named = made_is ∙ ap (λ n. commits ++ (one_done asking its_log n).commits) named in
       let told_named = told_is ∙ ap (λ os. outcomes ++ os) (sym outcome_is ∙ ap (λ n. (one_done asking its_log n).outcomes) named) in
@@ -109,10 +113,18 @@ module _ (asking : Asking) (log : List Commit) (ops : List Op) (op : Op) (left :
 drawn_within : (drawn n m : ℕ) (ws : List (List ℕ)) → length (drop drawn ws) ≡ n + m → drawn ≤ length ws → drawn + n ≤ length ws
 drawn_within drawn n m ws e within = omega (arith, e, within, length-drop drawn ws)
 
+-- what some JSON means as a create's draft
+pub draft_meant : (asking : Asking) (log : List Commit) (ops : List Op) (i : ℕ) (op : Op) (words rest : List (List ℕ)) (commits : List Commit) (outcomes : List Outcome)
+    → IsUnderWay asking log ops (drop i ops) words rest commits outcomes → i < length ops → op ≡ get_or ops i op → IsMeantDraft op.draft
+draft_meant asking log ops i op words rest commits outcomes way lt is =
+    let front : drop i ops ≡ op ∷ drop (suc i) ops = drop-cons ops i op lt ∙ ap (λ o. o ∷ drop (suc i) ops) (sym is) in
+    let at = subst (λ left. IsUnderWay asking log ops left words rest commits outcomes) front way in
+    subst (λ b. IsMeantWhere b op.draft) (no_deletion op.kind op.draft (and_parts (is_plain_create op) _ at.plain).0) at.meant.0.draft
+
 -- one turn of the loop
 pub step : (asking : Asking) (log : List Commit) (ops : List Op) (i : ℕ) (op : Op) (words : List (List ℕ)) (drawn n : ℕ) (commits made : List Commit) (outcomes told : List Outcome) (name : List ℕ) (outcome : Outcome)
     → IsUnderWay asking log ops (drop i ops) words (drop drawn words) commits outcomes → drawn ≤ length words → i < length ops → op ≡ get_or ops i op → n ≡ words_for op
-    → with_name op name ≡ named_by op (first_word (drop drawn words))
+    → name ≡ drawn_name op (drop drawn words)
     → (one_done asking (log ++ commits) (with_name op name)).outcomes ≡ outcome ∷ []
     → made ≡ commits ++ (one_done asking (log ++ commits) (with_name op name)).commits
     → AllByRecursion (IsCreation asking.key.now) (one_done asking (log ++ commits) (with_name op name)).commits
@@ -131,7 +143,7 @@ step asking log ops i op words drawn n commits made outcomes told name outcome w
 -- nothing is left
 pub all_made : (asking : Asking) (log : List Commit) (ops : List Op) (words rest : List (List ℕ)) (commits : List Commit) (outcomes : List Outcome) (left : List Op) → left ≡ []
     → IsUnderWay asking log ops left words rest commits outcomes
-    → (commits ≡ (all_done asking log (named_ops ops words)).commits) × (outcomes ≡ (all_done asking log (named_ops ops words)).outcomes)
+    → (commits ≡ (all_done asking log (ops_at asking.key.now ops words)).commits) × (outcomes ≡ (all_done asking log (ops_at asking.key.now ops words)).outcomes)
 unfolding all_done
 all_made asking log ops words rest commits outcomes [] e way = (sym (append-nil commits) ∙ way.made, sym (append-nil outcomes) ∙ way.told)
 all_made asking log ops words rest commits outcomes (op ∷ left) e way = absurd (not_nil op left e)

@@ -1,5 +1,5 @@
 -- What the owner of a default zone sees, and what an ask comes to by it.
-use Rattle.std.proofs.Common.{◌≡◌, ℕ, suc, List, [], ◌∷◌, ◌++◌, Bool, true, false, cond, refl, sym, ap, ◌∙◌, subst, Some, None, Option, map}
+use Rattle.std.proofs.Common.{not, ◌≡◌, ℕ, suc, List, [], ◌∷◌, ◌++◌, Bool, true, false, cond, refl, sym, ap, ◌∙◌, subst, Some, None, Option, map}
 use Rattle.std.specs.Prelude.{fold, zip, is_some, if◌then◌else◌}
 use Rattle.std.specs.Option.{option_map_or}
 use Rattle.std.specs.List.{list_all, AllByRecursion}
@@ -7,7 +7,6 @@ use Rattle.std.proofs.lemmas.Bool.{both_ways, and_parts}
 use Rattle.ck_base.specs.declared.key.ZoneKey.{ZoneKey}
 use Rattle.record_model.specs.declared.records.Record.{Record}
 use Rattle.record_model.specs.declared.view.View.{View}
-use Rattle.zone_model.specs.declared.operations.Op.{Op}
 use Rattle.zone_model.specs.declared.operations.Past.{Past}
 use Rattle.zone_model.specs.declared.commits.Act.{Act}
 use Rattle.zone_model.specs.declared.commits.Act.TheVariants.{Writes, MakeZone, DropZone, SetSubscription, DropSubscription}
@@ -20,10 +19,10 @@ use Rattle.zone_model.specs.Records.{record_at, is_there}
 use Rattle.zone_model.specs.Zones.{Zone, first_zone, zone_at, commits_at, after_act, puts_at}
 use Rattle.zone_model.specs.Views.{view_of, view_of_zone, owner_view, nowhere}
 use Rattle.zone_model.specs.Past.{past_of, name_history}
-use Rattle.zone_model.specs.Requests.{Caller, Putting, name_of_op, name_of_put, guids_left, is_deletion}
+use Rattle.zone_model.specs.Requests.{Caller, NamedOp, is_deletion}
 use Rattle.zone_model.specs.Effect.{Request, working, stamp, stamped}
 use Rattle.zone_model.specs.Modifying.{request_at, judgement_at, done, outcome_of, effect_at, modified_as_one, modified_apart}
-use Rattle.plain_creates.specs.PlainCreates.{IsOwner, is_plain_create, refusal_of_create}
+use Rattle.plain_creates.specs.PlainCreates.{IsOwner, is_plain_named, refusal_of_create}
 use Rattle.plain_creates.specs.OnePuts.{only_put, IsOnePut}
 use Rattle.zone_laws.proofs.NameLaws.{same-refl, same-true}
 use Rattle.zone_laws.proofs.RecordLaws.{found-name}
@@ -65,23 +64,21 @@ module _ (caller : Caller) (own : IsOwner caller) where
 
   -- ---- one operation
 
-  module _ (moment : ℕ) (log : List Commit) (op : Op) (guids : List (List ℕ)) (there : (zone_at log caller.key).there ≡ true) (plain : is_plain_create op ≡ true) where
+  module _ (moment : ℕ) (log : List Commit) (op : NamedOp) (there : (zone_at log caller.key).there ≡ true) (plain : is_plain_named op ≡ true) where
     abbrev its_name : List ℕ
-    its_name = name_of_op op
+    its_name = op.name
 
     abbrev its_sight : OpSight
     its_sight = op_sight caller moment log (op ∷ [])
 
     abbrev at_log : Request
-    at_log = request_at caller moment log (op ∷ []) guids
+    at_log = request_at caller moment log (op ∷ [])
 
     abbrev as_seen : Request
-    as_seen = request_seen caller moment its_sight (op ∷ []) guids
+    as_seen = request_seen caller moment its_sight (op ∷ [])
 
     past_alone : name_history log caller.key (op ∷ []) ≡ past_of log caller.key its_name ∷ []
-    past_alone =
-        let put : Putting = record { kind = op.kind; draft = op.draft; guid = [] } in
-        ap (λ b. map (past_of log caller.key) (distinct (map name_of_put (if b then [] else put ∷ [])))) (no_deletion op plain)
+    past_alone = ap (λ b. map (past_of log caller.key) (distinct (map (λ (o : NamedOp). o.name) (if not b then op ∷ [] else [])))) (no_deletion op.kind op.draft plain)
 
     puts_alone : puts_seen its_sight.pasts its_name ≡ puts_at log caller.key its_name
     puts_alone = ap (λ ps. puts_seen ps its_name) past_alone
@@ -114,25 +111,25 @@ module _ (caller : Caller) (own : IsOwner caller) where
     mapped_alike [] = refl
     mapped_alike (j ∷ js) = ap (λ o. o ∷ []) (outcome_alike j)
 
-    pub seen_as_one : outcomes_as_one caller moment its_sight (op ∷ []) guids ≡ (modified_as_one caller moment log (op ∷ []) guids).outcomes
+    pub seen_as_one : outcomes_as_one caller moment its_sight (op ∷ []) ≡ (modified_as_one caller moment log (op ∷ [])).outcomes
     seen_as_one = mapped_alike (judgement_at caller moment log (op ∷ []))
 
-    effect_by : (o : Option OpFault) → refusal_of_create (zone_at log caller.key).rows op.draft ≡ o → AllByRecursion IsOnePut (effect_at caller moment log (op ∷ []) guids)
-    effect_by (Some fault) e = subst (AllByRecursion IsOnePut) (sym (ap (λ (m : Modified). m.commits) (creates_done.refused caller moment log op guids fault own there plain e))) tt
-    effect_by None e = subst (AllByRecursion IsOnePut) (sym (ap (λ (m : Modified). m.commits) (creates_done.made caller moment log op guids own there plain e))) (refl, tt)
+    effect_by : (o : Option OpFault) → refusal_of_create (zone_at log caller.key).rows op.name op.draft ≡ o → AllByRecursion IsOnePut (effect_at caller moment log (op ∷ []))
+    effect_by (Some fault) e = subst (AllByRecursion IsOnePut) (sym (ap (λ (m : Modified). m.commits) (creates_done.refused caller moment log op fault own there plain e))) tt
+    effect_by None e = subst (AllByRecursion IsOnePut) (sym (ap (λ (m : Modified). m.commits) (creates_done.made caller moment log op own there plain e))) (refl, tt)
 
-    pub effect_ones : AllByRecursion IsOnePut (effect_at caller moment log (op ∷ []) guids)
-    effect_ones = effect_by (refusal_of_create (zone_at log caller.key).rows op.draft) refl
+    pub effect_ones : AllByRecursion IsOnePut (effect_at caller moment log (op ∷ []))
+    effect_ones = effect_by (refusal_of_create (zone_at log caller.key).rows op.name op.draft) refl
 
   -- ---- one after another
 
   module _ (moment : ℕ) (default : is_default caller.key ≡ true) where
-    pub seen_apart : (ops : List Op) (log : List Commit) (guids : List (List ℕ)) → list_all is_plain_create ops ≡ true → AllByRecursion IsOnePut log
-        → outcomes_apart caller moment (sights_of caller moment log ops guids) ops guids ≡ (modified_apart caller moment log ops guids).outcomes
-    seen_apart [] log guids plain ones = refl
-    seen_apart (op ∷ ops) log guids plain ones =
-        let parts = and_parts (is_plain_create op) _ plain in
+    pub seen_apart : (ops : List NamedOp) (log : List Commit) → list_all is_plain_named ops ≡ true → AllByRecursion IsOnePut log
+        → outcomes_apart caller moment (sights_of caller moment log ops) ops ≡ (modified_apart caller moment log ops).outcomes
+    seen_apart [] log plain ones = refl
+    seen_apart (op ∷ ops) log plain ones =
+        let parts = and_parts (is_plain_named op) _ plain in
         let there = default_there log caller.key default ones in
-        let made = effect_at caller moment log (op ∷ []) guids in
-        let more = all_joined IsOnePut log made ones (effect_ones moment log op guids there parts.0) in
-        λ i. seen_as_one moment log op guids there parts.0 i ++ seen_apart ops (log ++ made) (guids_left op guids) parts.1 more i
+        let made = effect_at caller moment log (op ∷ []) in
+        let more = all_joined IsOnePut log made ones (effect_ones moment log op there parts.0) in
+        λ i. seen_as_one moment log op there parts.0 i ++ seen_apart ops (log ++ made) parts.1 more i

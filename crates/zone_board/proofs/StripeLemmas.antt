@@ -1,17 +1,19 @@
 -- One history of a list of histories after a write.
 use Rattle.std.proofs.Common.{◌≡◌, ◌≢◌, ℕ, zero, suc, ◌<◌, ◌≤◌, ◌++◌, List, [], ◌∷◌, length, set, get_or, Bool, true, false, nat_eq, refl, sym, ap, ◌∙◌, subst, inl, inr, arith, append-nil, Result, Ok, Err, IfOk, IfErr, OnErr, Option, Some, None, unwrap_or}
 use Rattle.std.specs.Prelude.{◌⊎◌, map}
+use Rattle.std.specs.List.{AllByRecursion}
 use Rattle.std.proofs.lemmas.Bool.{cases_lt}
 use Rattle.std.proofs.lemmas.List.{length-set}
 use Rattle.std.proofs.lemmas.Bool.{eqb-true, eqb-false}
 use Rattle.zone_model.specs.declared.events.Event.{Event}
+use Rattle.zone_laws.proofs.TestLaws.{history_so}
 use Rattle.zone_model.specs.Legal.{IsLegal}
 use Rattle.board_model.specs.declared.parts.Part.{Part}
 use Rattle.board_model.specs.declared.answers.Answered.{Answered}
 use Rattle.zone_model.specs.declared.commits.Commit.{Commit}
 use Rattle.board_model.specs.Asks.{stored, sight, answer, event_of, made, makes, commits_by, told}
 use Rattle.board_model.specs.declared.answers.Answer.{Answer}
-use Rattle.board_model.specs.Turns.{BoardState, AreLegal, HadTurn, HadAsk, IsAsked, MayHaveAsked}
+use Rattle.board_model.specs.Turns.{BoardState, AreLegal, HadTurn, IsAsked, MayHaveAsked}
 use Rattle.zone_board.specs.declared.board.AskFault.{AskFault}
 use Rattle.zone_board.specs.declared.stripe.Stripe.{Stripe}
 use Rattle.zone_board.specs.Stripes.{events_in, turns_in, list_at, solo}
@@ -65,13 +67,23 @@ not_none e = cc
 abbrev Stripes : Type 0
 Stripes = List Stripe
 
+nothing_at : (k : ℕ) → list_at {X = Event} [] k ≡ []
+nothing_at zero = refl
+nothing_at (suc k) = refl
+
+-- where nothing has happened, all is as it is to be
+pub none_kept : (histories : List (List Event)) → AllByRecursion (λ events. events ≡ []) histories → (lock k : ℕ) → IsKept lock (list_at histories k)
+none_kept [] none lock k = subst (IsKept lock) (sym (nothing_at k)) (record { legal = history_so lock [] refl tt; puts = tt })
+none_kept (events ∷ histories) none lock zero = subst (IsKept lock) (sym none.0) (record { legal = history_so lock [] refl tt; puts = tt })
+none_kept (events ∷ histories) none lock (suc k) = none_kept histories none.1 lock k
+
 -- the histories of a board are legal
 pub all_legal : (vs : Stripes) → length vs ≡ 16 → ((k : ℕ) → k < 16 → IsKept k (list_at (events_in vs) k)) → AreLegal (list_at (events_in vs))
 all_legal vs sixteen kept k = by_lock (cases_lt k 16)
   where
     by_lock : (k < 16) ⊎ (16 ≤ k) → IsLegal k (list_at (events_in vs) k)
     by_lock (inl low) = (kept k low).legal
-    by_lock (inr high) = subst (IsLegal k) (sym (list_at-past events_of vs k (omega (arith, high, sixteen)))) (record { follows = refl; formed = tt })
+    by_lock (inr high) = subst (IsLegal k) (sym (list_at-past events_of vs k (omega (arith, high, sixteen)))) (history_so k [] refl tt)
 
 -- where commits are stored, the answer is told
 told_stored : (seat : ℕ) (base : List Event) (cs : List Commit) (a : Answer) → told (event_of stored seat base cs) a ≡ a

@@ -1,5 +1,5 @@
 -- Who asks for creations in which zone, and what they come to.
-use Rattle.std.specs.Prelude.{◌≡◌, ◌<◌, ◌^◌, true, List, [], ◌∷◌}
+use Rattle.std.specs.Prelude.{◌≡◌, ◌<◌, ◌^◌, ℕ, true, List, [], ◌∷◌}
 use Rattle.ck_base.specs.declared.scope.Scope.TheVariants.{Private}
 use Rattle.record_model.specs.declared.records.Record.{Record}
 use Rattle.zone_model.specs.declared.operations.Op.{Op}
@@ -7,7 +7,7 @@ use Rattle.zone_model.specs.declared.commits.Commit.{Commit}
 use Rattle.zone_model.specs.declared.outcomes.Modified.{Modified}
 use Rattle.zone_model.specs.Names.{is_default}
 use Rattle.zone_model.specs.Form.{IsKey}
-use Rattle.zone_model.specs.Requests.{Caller}
+use Rattle.zone_model.specs.Requests.{Caller, NamedOp}
 use Rattle.zone_model.specs.Modifying.{modified_as_one, modified_apart}
 use Rattle.plain_creates.specs.OnePuts.{commit_of_put}
 use Rattle.zone_board.specs.declared.create.Asking.{Asking}
@@ -26,10 +26,14 @@ pub record IsOfOwner (asking : Asking) : Type 0 where
 abbrev pub commit_by : Asking → Record → Commit
 commit_by asking row = commit_of_put asking.key.now asking.user.now asking.moment row
 
+-- an operation that begins no share, with its name
+abbrev pub with_name : Op → List ℕ → NamedOp
+with_name op name = record { kind = op.kind; draft = op.draft; name = name; guid = [] }
+
 -- what one operation with its name comes to
-unfoldable pub one_done : Asking → List Commit → Op → Modified
-one_done asking log op = modified_as_one (caller_of asking) asking.moment log (op ∷ []) []
+unfoldable pub one_done : Asking → List Commit → NamedOp → Modified
+one_done asking log op = modified_as_one (caller_of asking) asking.moment log (op ∷ [])
 
 -- what operations with their names come to, one after another
-unfoldable pub all_done : Asking → List Commit → List Op → Modified
-all_done asking log ops = modified_apart (caller_of asking) asking.moment log ops []
+unfoldable pub all_done : Asking → List Commit → List NamedOp → Modified
+all_done asking log ops = modified_apart (caller_of asking) asking.moment log ops

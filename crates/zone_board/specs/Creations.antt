@@ -28,5 +28,5 @@ first_of_type user moment name rtype fields = record {
 }
 
 -- the record that is put where the name was never put before, unless the draft has no type or is too large
-abbrev pub first_record : List ℕ → ℕ → Draft → Option Record
-first_record user moment d = if is_none d.rtype || is_too_large d then None else Some (created_record user moment (λ _. 0) d)
+abbrev pub first_record : List ℕ → ℕ → List ℕ → Draft → Option Record
+first_record user moment name d = if is_none d.rtype || is_too_large d then None else Some (created_record user moment (λ _. 0) name d)

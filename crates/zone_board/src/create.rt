@@ -5,10 +5,9 @@ ghost use Rattle.record_model.specs.DraftForms.{IsMeantDraft, AreWishes};
 ghost use Rattle.zone_model.specs.Events.{log_of};
 ghost use Rattle.plain_creates.specs.OnePuts.{IsOnePut};
 ghost use Rattle.plain_creates.specs.PlainCreates.{is_plain_create};
-ghost use Rattle.drawn_names.specs.Drawing.{draft_with, with_name};
 ghost use Rattle.zone_board.specs.Kept.{IsCreation};
 ghost use Rattle.zone_board.specs.Creations.{given_field, given_fields, first_of_type, first_record};
-ghost use Rattle.zone_board.specs.Askings.{commit_by, one_done, IsOfOwner};
+ghost use Rattle.zone_board.specs.Askings.{commit_by, with_name, one_done, IsOfOwner};
 
 use crate::find::is_taken;
 use ck_base::limits::RECORD_SIZE;
@@ -88,7 +87,7 @@ fn first_record(
     draft: &Draft,
 ) -> Result<Option<Record>, NoMemory>
     requires { AreWishes draft.now.fields }
-    ensures { IfOk result (λ row. row ≡ first_record asking.entry.user.now asking.entry.moment (draft_with draft.now name)) }
+    ensures { IfOk result (λ row. row ≡ first_record asking.entry.user.now asking.entry.moment name draft.now) }
 {
     let Some(rtype) = &draft.rtype else {
         return Ok(None);

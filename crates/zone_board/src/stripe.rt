@@ -3,9 +3,8 @@ ghost use Rattle.std.specs.Prelude.{◌≡◌, ◌≤◌, ◌==◌, [], ◌∷�
 ghost use Rattle.std.specs.List.{AllByRecursion};
 ghost use Rattle.zone_model.specs.Events.{origin_of, log_of, own};
 ghost use Rattle.plain_creates.specs.OnePuts.{IsOnePut};
-ghost use Rattle.drawn_names.specs.Drawing.{named_ops};
 ghost use Rattle.board_model.specs.Parts.{AreBuilt, MayBeAsked};
-ghost use Rattle.board_model.specs.Asks.{stored, sight, answer, commits_by, event_of, made, makes};
+ghost use Rattle.board_model.specs.Asks.{stored, ops_at, sight, answer, commits_by, event_of, made, makes};
 ghost use Rattle.zone_board.specs.Kept.{IsKept, IsCreation};
 ghost use Rattle.zone_board.specs.Askings.{all_done, IsOfOwner};
 
@@ -29,8 +28,8 @@ fn create_records(
     requires own { IsOfOwner asking }
     requires puts { AllByRecursion IsOnePut (log_of events.now) }
     requires built { AreBuilt ops.now asking.moment words.now }
-    ensures made { IfOk result (λ done. done.0.items ≡ (all_done asking.entry (log_of events.now) (named_ops ops.now words.now)).commits) }
-    ensures told { IfOk result (λ done. done.1.items ≡ (all_done asking.entry (log_of events.now) (named_ops ops.now words.now)).outcomes) }
+    ensures made { IfOk result (λ done. done.0.items ≡ (all_done asking.entry (log_of events.now) (ops_at asking.entry.key.now ops.now words.now)).commits) }
+    ensures told { IfOk result (λ done. done.1.items ≡ (all_done asking.entry (log_of events.now) (ops_at asking.entry.key.now ops.now words.now)).outcomes) }
     ensures formed { IfOk result (λ done. AllByRecursion (IsCreation asking.entry.key.now) done.0.items) }
 {
     let mut commits = Vec::new(alloc);
@@ -94,11 +93,11 @@ fn modify(
     requires own { IsOfOwner asking }
     requires puts { AllByRecursion IsOnePut (log_of events.now.items) }
     requires built { AreBuilt ops.now asking.moment words.now }
-    ensures made { IfOk result (λ _. events.new.items ≡ events.old.items ++ event_of stored seat events.old.items (all_done asking.entry (log_of events.old.items) (named_ops ops.now words.now)).commits) }
+    ensures made { IfOk result (λ _. events.new.items ≡ events.old.items ++ event_of stored seat events.old.items (all_done asking.entry (log_of events.old.items) (ops_at asking.entry.key.now ops.now words.now)).commits) }
     ensures len { IfOk result (λ answered. answered.len ≡ length events.new.items) }
-    ensures event { IfOk result (λ answered. answered.event ≡ makes (all_done asking.entry (log_of events.old.items) (named_ops ops.now words.now)).commits) }
-    ensures answer { IfOk result (λ answered. answered.answer ≡ Answer.Modify (all_done asking.entry (log_of events.old.items) (named_ops ops.now words.now)).outcomes) }
-    ensures formed { IfOk result (λ _. AllByRecursion (IsCreation asking.entry.key.now) (all_done asking.entry (log_of events.old.items) (named_ops ops.now words.now)).commits) }
+    ensures event { IfOk result (λ answered. answered.event ≡ makes (all_done asking.entry (log_of events.old.items) (ops_at asking.entry.key.now ops.now words.now)).commits) }
+    ensures answer { IfOk result (λ answered. answered.answer ≡ Answer.Modify (all_done asking.entry (log_of events.old.items) (ops_at asking.entry.key.now ops.now words.now)).outcomes) }
+    ensures formed { IfOk result (λ _. AllByRecursion (IsCreation asking.entry.key.now) (all_done asking.entry (log_of events.old.items) (ops_at asking.entry.key.now ops.now words.now)).commits) }
     ensures err { OnErr result (events.new.items ≡ events.old.items) }
 {
     let (commits, outcomes) = create_records(alloc, events, asking, ops, words)?;

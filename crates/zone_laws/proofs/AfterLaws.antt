@@ -48,9 +48,9 @@ found-over some rows x ascend = ap (λ rs. record_at (fold with_record rows rs) 
 
 pub ascending-working : (q : Request) → IsAscending q.seen → IsAscending (working q)
 ascending-working q ascend =
-    let rows = with_puts q.seen q.ops q.guids in
+    let rows = with_puts q.seen q.ops in
     subst (λ names. are_ascending names ≡ true) (sym (names-map (λ (r : Record). record r { share = mark_of q.caller.scope q.seen q.ops rows r }) (λ r. refl) rows))
-    (ascending-fold (records_written q.seen (puts_in q.ops q.guids)) q.seen ascend)
+    (ascending-fold (records_written q.seen (puts_in q.ops)) q.seen ascend)
 
 -- ---- after the puts
 

@@ -6,14 +6,13 @@ use Rattle.std.specs.List.{list_any, list_all}
 use Rattle.std.proofs.lemmas.Bool.{both_ways, and_parts, and_from, or_left, or_right, or_cases}
 use Rattle.std.proofs.lemmas.List.{length-map}
 use Rattle.record_model.specs.declared.records.Record.{Record}
-use Rattle.zone_model.specs.declared.operations.Op.{Op}
 use Rattle.zone_model.specs.declared.outcomes.OpFault.{OpFault}
 use Rattle.zone_model.specs.declared.outcomes.OpFault.TheVariants.{Atomic}
 use Rattle.zone_model.specs.declared.outcomes.Outcome.TheVariants.{Put, Deleted}
 use Rattle.zone_model.specs.declared.commits.Commit.{Commit}
 use Rattle.zone_model.specs.declared.commits.Write.{Write}
 use Rattle.zone_model.specs.declared.commits.Act.TheVariants.{Writes}
-use Rattle.zone_model.specs.Requests.{Caller, is_deletion, name_of_op, guids_left}
+use Rattle.zone_model.specs.Requests.{Caller, is_deletion, NamedOp}
 use Rattle.zone_model.specs.Records.{record_at}
 use Rattle.zone_model.specs.Views.{is_empty, view_of}
 use Rattle.zone_model.specs.Past.{name_history}
@@ -30,8 +29,8 @@ length_zip (x ∷ xs) [] e = e
 length_zip (x ∷ xs) (y ∷ ys) e = ap suc (length_zip xs ys (omega (arith, e)))
 
 module _ (caller : Caller) (moment : ℕ) where
-  answers_as_one : (log : List Commit) (ops : List Op) (guids : List (List ℕ)) → length (modified_as_one caller moment log ops guids).outcomes ≡ length ops
-  answers_as_one log ops guids = length-map (zip ops (judgement_at caller moment log ops)) (outcome_of (request_at caller moment log ops guids))
+  answers_as_one : (log : List Commit) (ops : List NamedOp) → length (modified_as_one caller moment log ops).outcomes ≡ length ops
+  answers_as_one log ops = length-map (zip ops (judgement_at caller moment log ops)) (outcome_of (request_at caller moment log ops))
       ∙ length_zip ops (judgement_at caller moment log ops) (all_judged (view_of log caller.user caller.scope caller.key) (name_history log caller.key ops) ops caller)
 
   few_written : (q : Request) (ws : List Write) (b : Bool) → (let c : Commit = record { key = q.caller.key; user = q.caller.user; moment = q.moment; act = Writes ws } in
@@ -43,41 +42,41 @@ module _ (caller : Caller) (moment : ℕ) where
   few_with q ws true = omega arith
   few_with q ws false = few_written q ws (is_empty ws)
 
-  few_as_one : (log : List Commit) (ops : List Op) (guids : List (List ℕ)) → length (effect_at caller moment log ops guids) ≤ 1
-  few_as_one log ops guids =
-      let q = request_at caller moment log ops guids in
+  few_as_one : (log : List Commit) (ops : List NamedOp) → length (effect_at caller moment log ops) ≤ 1
+  few_as_one log ops =
+      let q = request_at caller moment log ops in
       few_with q (writes q (removed q)) (has_fault (judgement_at caller moment log ops))
 
-  answers_apart : (ops : List Op) (log : List Commit) (guids : List (List ℕ)) → length (modified_apart caller moment log ops guids).outcomes ≡ length ops
-  answers_apart [] log guids = refl
-  answers_apart (op ∷ ops) log guids =
-      let made = effect_at caller moment log (op ∷ []) guids in
-      length-append (modified_as_one caller moment log (op ∷ []) guids).outcomes (modified_apart caller moment (log ++ made) ops (guids_left op guids)).outcomes
-      ∙ (λ i. answers_as_one log (op ∷ []) guids i + answers_apart ops (log ++ made) (guids_left op guids) i) ∙ omega arith
+  answers_apart : (ops : List NamedOp) (log : List Commit) → length (modified_apart caller moment log ops).outcomes ≡ length ops
+  answers_apart [] log = refl
+  answers_apart (op ∷ ops) log =
+      let made = effect_at caller moment log (op ∷ []) in
+      length-append (modified_as_one caller moment log (op ∷ [])).outcomes (modified_apart caller moment (log ++ made) ops).outcomes
+      ∙ (λ i. answers_as_one log (op ∷ []) i + answers_apart ops (log ++ made) i) ∙ omega arith
 
-  few_apart : (ops : List Op) (log : List Commit) (guids : List (List ℕ)) → length (modified_apart caller moment log ops guids).commits ≤ length ops
-  few_apart [] log guids = omega arith
-  few_apart (op ∷ ops) log guids =
-      let made = effect_at caller moment log (op ∷ []) guids in
+  few_apart : (ops : List NamedOp) (log : List Commit) → length (modified_apart caller moment log ops).commits ≤ length ops
+  few_apart [] log = omega arith
+  few_apart (op ∷ ops) log =
+      let made = effect_at caller moment log (op ∷ []) in
       omega (
         arith,
-        length-append made (modified_apart caller moment (log ++ made) ops (guids_left op guids)).commits,
-        few_as_one log (op ∷ []) guids,
-        few_apart ops (log ++ made) (guids_left op guids),
+        length-append made (modified_apart caller moment (log ++ made) ops).commits,
+        few_as_one log (op ∷ []),
+        few_apart ops (log ++ made),
       )
 
 -- ---- refusals
 
-done_by : (q : Request) (op : Op) (d : Bool) (o : Option Record) → is_refusal (option_map_or (λ r. Put (stamped q r)) (if d then None else o) (Deleted (name_of_op op))) ≡ false
+done_by : (q : Request) (op : NamedOp) (d : Bool) (o : Option Record) → is_refusal (option_map_or (λ r. Put (stamped q r)) (if d then None else o) (Deleted op.name)) ≡ false
 done_by q op true o = refl
 done_by q op false None = refl
 done_by q op false (Some r) = refl
 
-refusal_is : (q : Request) (op : Op) (judged : Option OpFault) → is_refusal (outcome_of q (op, judged)) ≡ is_some judged
-refusal_is q op None = done_by q op (is_deletion op.kind) (record_at (working q) (name_of_op op))
+refusal_is : (q : Request) (op : NamedOp) (judged : Option OpFault) → is_refusal (outcome_of q (op, judged)) ≡ is_some judged
+refusal_is q op None = done_by q op (is_deletion op.kind) (record_at (working q) op.name)
 refusal_is q op (Some fault) = refl
 
-refused_some : (q : Request) (ops : List Op) (judged : List (Option OpFault)) → list_any is_refusal (map (outcome_of q) (zip ops judged)) ≡ true → has_fault judged ≡ true
+refused_some : (q : Request) (ops : List NamedOp) (judged : List (Option OpFault)) → list_any is_refusal (map (outcome_of q) (zip ops judged)) ≡ true → has_fault judged ≡ true
 refused_some q [] judged e = absurd (both_ways false refl e)
 refused_some q (op ∷ ops) [] e = absurd (both_ways false refl e)
 refused_some q (op ∷ ops) (j ∷ judged) e = ⊎_elim
@@ -85,7 +84,7 @@ refused_some q (op ∷ ops) (j ∷ judged) e = ⊎_elim
     (λ (h : list_any is_refusal (map (outcome_of q) (zip ops judged)) ≡ true). or_right (is_some j) _ (refused_some q ops judged h))
     (or_cases (is_refusal (outcome_of q (op, j))) _ e)
 
-refused_all : (q : Request) (ops : List Op) (judged : List (Option OpFault)) → list_all is_some judged ≡ true → list_all is_refusal (map (outcome_of q) (zip ops judged)) ≡ true
+refused_all : (q : Request) (ops : List NamedOp) (judged : List (Option OpFault)) → list_all is_some judged ≡ true → list_all is_refusal (map (outcome_of q) (zip ops judged)) ≡ true
 refused_all q [] judged e = refl
 refused_all q (op ∷ ops) [] e = refl
 refused_all q (op ∷ ops) (j ∷ judged) e =
@@ -105,31 +104,31 @@ together_by false faults is e = absurd (both_ways (has_fault faults) is e)
 pub all-refused : (faults : List (Option OpFault)) → has_fault (together faults) ≡ true → list_all is_some (together faults) ≡ true
 all-refused faults e = together_by (has_fault faults) faults refl e
 
-module _ (caller : Caller) (moment : ℕ) (log : List Commit) (ops : List Op) (guids : List (List ℕ)) where
-  none_as_one : list_any is_refusal (modified_as_one caller moment log ops guids).outcomes ≡ true
-      → ((modified_as_one caller moment log ops guids).commits ≡ []) × (list_all is_refusal (modified_as_one caller moment log ops guids).outcomes ≡ true)
+module _ (caller : Caller) (moment : ℕ) (log : List Commit) (ops : List NamedOp) where
+  none_as_one : list_any is_refusal (modified_as_one caller moment log ops).outcomes ≡ true
+      → ((modified_as_one caller moment log ops).commits ≡ []) × (list_all is_refusal (modified_as_one caller moment log ops).outcomes ≡ true)
   none_as_one e =
-      let q = request_at caller moment log ops guids in
+      let q = request_at caller moment log ops in
       let fault = refused_some q ops (judgement_at caller moment log ops) e in
       let v = view_of log caller.user caller.scope caller.key in (
         ap (λ b. if b then [] else effect q) fault,
         refused_all q ops (judgement_at caller moment log ops) (all-refused (faults_of (grounds_of caller (name_history log caller.key ops) v.rows ops) ops) fault),
       )
 
-  each_by : (b : Bool) → length (if b then modified_as_one caller moment log ops guids else modified_apart caller moment log ops guids).outcomes ≡ length ops
-  each_by true = answers_as_one caller moment log ops guids
-  each_by false = answers_apart caller moment ops log guids
+  each_by : (b : Bool) → length (if b then modified_as_one caller moment log ops else modified_apart caller moment log ops).outcomes ≡ length ops
+  each_by true = answers_as_one caller moment log ops
+  each_by false = answers_apart caller moment ops log
 
 pub each_answered : EachIsAnswered
 each_answered = record {
-  each = λ caller moment log atomic ops guids. each_by caller moment log ops guids (is_judged_as_one caller.key atomic);
-  few = λ caller moment log atomic ops guids apart.
-      subst (λ b. length (if b then modified_as_one caller moment log ops guids else modified_apart caller moment log ops guids).commits ≤ length ops) (sym apart) (few_apart caller moment ops log guids);
-  one = λ caller moment log atomic ops guids as_one.
-      subst (λ b. length (if b then modified_as_one caller moment log ops guids else modified_apart caller moment log ops guids).commits ≤ 1) (sym as_one) (few_as_one caller moment log ops guids);
-  none = λ caller moment log atomic ops guids as_one.
-      subst (λ b. list_any is_refusal (if b then modified_as_one caller moment log ops guids else modified_apart caller moment log ops guids).outcomes ≡ true
-      → ((if b then modified_as_one caller moment log ops guids else modified_apart caller moment log ops guids).commits ≡ [])
-      × (list_all is_refusal (if b then modified_as_one caller moment log ops guids else modified_apart caller moment log ops guids).outcomes ≡ true))
-      (sym as_one) (none_as_one caller moment log ops guids);
+  each = λ caller moment log atomic ops. each_by caller moment log ops (is_judged_as_one caller.key atomic);
+  few = λ caller moment log atomic ops apart.
+      subst (λ b. length (if b then modified_as_one caller moment log ops else modified_apart caller moment log ops).commits ≤ length ops) (sym apart) (few_apart caller moment ops log);
+  one = λ caller moment log atomic ops as_one.
+      subst (λ b. length (if b then modified_as_one caller moment log ops else modified_apart caller moment log ops).commits ≤ 1) (sym as_one) (few_as_one caller moment log ops);
+  none = λ caller moment log atomic ops as_one.
+      subst (λ b. list_any is_refusal (if b then modified_as_one caller moment log ops else modified_apart caller moment log ops).outcomes ≡ true
+      → ((if b then modified_as_one caller moment log ops else modified_apart caller moment log ops).commits ≡ [])
+      × (list_all is_refusal (if b then modified_as_one caller moment log ops else modified_apart caller moment log ops).outcomes ≡ true))
+      (sym as_one) (none_as_one caller moment log ops);
 }

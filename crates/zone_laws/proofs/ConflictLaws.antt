@@ -6,14 +6,13 @@ use Rattle.std.specs.List.{AllByRecursion}
 use Rattle.std.proofs.lemmas.Bool.{both_ways, and_parts, or_cases}
 use Rattle.std.proofs.lemmas.List.{length-map}
 use Rattle.record_model.specs.declared.records.Record.{Record}
-use Rattle.zone_model.specs.declared.operations.Op.{Op}
 use Rattle.zone_model.specs.declared.outcomes.OpFault.{OpFault}
 use Rattle.zone_model.specs.declared.outcomes.OpFault.TheVariants.{Exists, NotFound, Conflict, BadRequest, AccessDenied, Validating, Atomic}
 use Rattle.zone_model.specs.declared.outcomes.Outcome.{Outcome}
 use Rattle.zone_model.specs.declared.outcomes.Outcome.TheVariants.{Put, Deleted, Refused}
 use Rattle.name_rules.specs.Options.{is_some_and, or_else}
 use Rattle.zone_model.specs.Records.{record_at, is_there}
-use Rattle.zone_model.specs.Requests.{Putting, is_deletion, is_forced, begins_share, makes_new, has_share_type, name_of_op, root_given, root_tag_given}
+use Rattle.zone_model.specs.Requests.{NamedOp, is_deletion, is_forced, begins_share, makes_new, has_share_type, root_given, root_tag_given}
 use Rattle.zone_model.specs.Grounds.{Grounds, grounds_of, is_stale, first_fault}
 use Rattle.zone_model.specs.PutChecks.{old, begins, root_seen, fault_of_put}
 use Rattle.zone_model.specs.DeletionChecks.{fault_of_deletion}
@@ -39,15 +38,15 @@ server_in (Refused fault server) = server
 none_shown : {r : Record} → ◌≡◌ {A = Option Record} None (Some r) → ⊥
 none_shown {r} e = both_ways (is_some (Some r)) (ap is_some (sym e)) refl
 
-done_shows_none : (q : Request) (op : Op) → server_in (done q op) ≡ None
-done_shows_none q op = by_kind (is_deletion op.kind) (record_at (working q) (name_of_op op))
+done_shows_none : (q : Request) (op : NamedOp) → server_in (done q op) ≡ None
+done_shows_none q op = by_kind (is_deletion op.kind) (record_at (working q) op.name)
   where
-    by_kind : (b : Bool) (found : Option Record) → server_in (option_map_or (λ r. Put (stamped q r)) (if b then None else found) (Deleted (name_of_op op))) ≡ None
+    by_kind : (b : Bool) (found : Option Record) → server_in (option_map_or (λ r. Put (stamped q r)) (if b then None else found) (Deleted op.name)) ≡ None
     by_kind true found = refl
     by_kind false None = refl
     by_kind false (Some r) = refl
 
-only : (q : Request) (op : Op) (judged : Option OpFault) (fault : OpFault) (r : Record) → outcome_of q (op, judged) ≡ Refused fault (Some r) → fault ≡ Conflict
+only : (q : Request) (op : NamedOp) (judged : Option OpFault) (fault : OpFault) (r : Record) → outcome_of q (op, judged) ≡ Refused fault (Some r) → fault ≡ Conflict
 only q op None fault r e = absurd (none_shown (sym (done_shows_none q op) ∙ ap server_in e))
 only q op (Some Exists) fault r e = absurd (none_shown (ap server_in e))
 only q op (Some NotFound) fault r e = absurd (none_shown (ap server_in e))
@@ -106,9 +105,9 @@ by_begun : (b : Bool) (find : List ℕ → Option Record) (root : Option (List �
 by_begun true find root e = refl
 by_begun false find root e = absurd (both_ways false refl e)
 
-module _ (q : Request) (op : Op) where
+module _ (q : Request) (op : NamedOp) where
   abbrev own : Option Record
-  own = record_at q.seen (name_of_op op)
+  own = record_at q.seen op.name
 
   abbrev root : Option Record
   root = option_and_then (record_at q.seen) (root_given op.draft)
@@ -117,16 +116,16 @@ module _ (q : Request) (op : Op) where
   told_own : (judged : Option OpFault) → judged ≡ Some Conflict → is_forced op.kind ≡ false → (r : Record) → own ≡ Some r → is_stale op.draft.tag r ≡ true → IsShown q (op, judged)
   told_own judged e free r found stale = (r, ap (λ j. outcome_of q (op, j)) e ∙ ap (λ o. Refused Conflict (or_else o root)) found, (free, inl (found, stale)))
 
-  told_root : (judged : Option OpFault) → judged ≡ Some Conflict → is_forced op.kind ≡ false → (r : Record) → own ≡ None → begins_share q.seen (record { kind = op.kind; draft = op.draft; guid = [] }) ≡ true → root ≡ Some r
+  told_root : (judged : Option OpFault) → judged ≡ Some Conflict → is_forced op.kind ≡ false → (r : Record) → own ≡ None → begins_share q.seen op ≡ true → root ≡ Some r
       → is_stale (root_tag_given op.draft) r ≡ true → IsShown q (op, judged)
   told_root judged e free r none begun found stale = (r, ap (λ j. outcome_of q (op, j)) e ∙ (ap (λ o. Refused Conflict (or_else o root)) none ∙ ap (λ o. Refused Conflict o) found), (free, inr (none, begun, found, stale)))
 
   module _ (g : Grounds) (same : q.seen ≡ g.seen) where
     abbrev its_own : Option Record
-    its_own = record_at g.seen (name_of_op op)
+    its_own = record_at g.seen op.name
 
     own_is : its_own ≡ own
-    own_is = ap (λ rows. record_at rows (name_of_op op)) (sym same)
+    own_is = ap (λ rows. record_at rows op.name) (sym same)
 
     deletion_shows : ShowsConflict q (op, fault_of_deletion g op)
     deletion_shows e =
@@ -135,8 +134,8 @@ module _ (q : Request) (op : Op) where
         told_own (fault_of_deletion g op) e (not_true (is_forced op.kind) stale.0) found.0 (sym own_is ∙ found.1) found.2
 
     module _ (earlier : List (List ℕ)) where
-      abbrev put : Putting
-      put = record { kind = op.kind; draft = op.draft; guid = [] }
+      abbrev put : NamedOp
+      put = op
 
       abbrev own_stale : Bool
       own_stale = is_some_and (is_stale op.draft.tag) (old g put)
@@ -148,8 +147,8 @@ module _ (q : Request) (op : Op) where
       begun_is_new : begins g put ≡ true → is_some its_own ≡ false
       begun_is_new begun =
           let parts = and_parts (makes_new op.kind) _ begun in
-          let unseen = and_parts (not (is_there g.seen (name_of_op op))) (has_share_type op.draft) parts.1 in
-          sym (there-found g.seen (name_of_op op)) ∙ not_true (is_there g.seen (name_of_op op)) unseen.0
+          let unseen = and_parts (not (is_there g.seen op.name)) (has_share_type op.draft) parts.1 in
+          sym (there-found g.seen op.name) ∙ not_true (is_there g.seen op.name) unseen.0
 
       own_shows : fault_of_put g put earlier ≡ Some Conflict → is_forced op.kind ≡ false → own_stale ≡ true → IsShown q (op, fault_of_put g put earlier)
       own_shows e free stale =
@@ -175,22 +174,22 @@ module _ (q : Request) (op : Op) where
 
 -- so it is with all operations
 module _ (q : Request) (g : Grounds) (same : q.seen ≡ g.seen) where
-  faults_show : (earlier : List (List ℕ)) (ops : List Op) → AllByRecursion (ShowsConflict q) (zip ops (faults_from g earlier ops))
+  faults_show : (earlier : List (List ℕ)) (ops : List NamedOp) → AllByRecursion (ShowsConflict q) (zip ops (faults_from g earlier ops))
   faults_show earlier [] = tt
-  faults_show earlier (op ∷ ops) = by_kind (faults_show earlier ops) (faults_show (name_of_op op ∷ earlier) ops) (is_deletion op.kind)
+  faults_show earlier (op ∷ ops) = by_kind (faults_show earlier ops) (faults_show (op.name ∷ earlier) ops) (is_deletion op.kind)
     where
-      by_kind : AllByRecursion (ShowsConflict q) (zip ops (faults_from g earlier ops)) → AllByRecursion (ShowsConflict q) (zip ops (faults_from g (name_of_op op ∷ earlier) ops)) → (b : Bool) → AllByRecursion (ShowsConflict q) (zip (op ∷ ops)
-          (if b then fault_of_deletion g op ∷ faults_from g earlier ops else fault_of_put g (record { kind = op.kind; draft = op.draft; guid = [] }) earlier ∷ faults_from g (name_of_op op ∷ earlier) ops))
+      by_kind : AllByRecursion (ShowsConflict q) (zip ops (faults_from g earlier ops)) → AllByRecursion (ShowsConflict q) (zip ops (faults_from g (op.name ∷ earlier) ops)) → (b : Bool) → AllByRecursion (ShowsConflict q) (zip (op ∷ ops)
+          (if b then fault_of_deletion g op ∷ faults_from g earlier ops else fault_of_put g op earlier ∷ faults_from g (op.name ∷ earlier) ops))
       by_kind behind past true = (deletion_shows q op g same, behind)
       by_kind behind past false = (put_shows q op g same earlier, past)
 
-all_refused_show : (q : Request) (ops : List Op) (faults : List (Option OpFault)) → AllByRecursion (ShowsConflict q) (zip ops faults) → AllByRecursion (ShowsConflict q) (zip ops (map (λ o. Some (unwrap_or o Atomic)) faults))
+all_refused_show : (q : Request) (ops : List NamedOp) (faults : List (Option OpFault)) → AllByRecursion (ShowsConflict q) (zip ops faults) → AllByRecursion (ShowsConflict q) (zip ops (map (λ o. Some (unwrap_or o Atomic)) faults))
 all_refused_show q [] faults all = tt
 all_refused_show q (op ∷ ops) [] all = tt
 all_refused_show q (op ∷ ops) (None ∷ faults) all = (λ e. absurd (other refl e), all_refused_show q ops faults all.1)
 all_refused_show q (op ∷ ops) (Some fault ∷ faults) all = (all.0, all_refused_show q ops faults all.1)
 
-together_show : (q : Request) (ops : List Op) (faults : List (Option OpFault)) → AllByRecursion (ShowsConflict q) (zip ops faults) → AllByRecursion (ShowsConflict q) (zip ops (together faults))
+together_show : (q : Request) (ops : List NamedOp) (faults : List (Option OpFault)) → AllByRecursion (ShowsConflict q) (zip ops faults) → AllByRecursion (ShowsConflict q) (zip ops (together faults))
 together_show q ops faults all = by_fault (has_fault faults)
   where
     by_fault : (b : Bool) → AllByRecursion (ShowsConflict q) (zip ops (if b then map (λ o. Some (unwrap_or o Atomic)) faults else faults))
@@ -206,12 +205,12 @@ conflicts_shown = record {
 
 -- ---- each operation is judged
 
-faults_are_all : (g : Grounds) (earlier : List (List ℕ)) (ops : List Op) → length (faults_from g earlier ops) ≡ length ops
+faults_are_all : (g : Grounds) (earlier : List (List ℕ)) (ops : List NamedOp) → length (faults_from g earlier ops) ≡ length ops
 faults_are_all g earlier [] = refl
-faults_are_all g earlier (op ∷ ops) = by_kind (faults_are_all g earlier ops) (faults_are_all g (name_of_op op ∷ earlier) ops) (is_deletion op.kind)
+faults_are_all g earlier (op ∷ ops) = by_kind (faults_are_all g earlier ops) (faults_are_all g (op.name ∷ earlier) ops) (is_deletion op.kind)
   where
-    by_kind : length (faults_from g earlier ops) ≡ length ops → length (faults_from g (name_of_op op ∷ earlier) ops) ≡ length ops → (b : Bool)
-        → length (if b then fault_of_deletion g op ∷ faults_from g earlier ops else fault_of_put g (record { kind = op.kind; draft = op.draft; guid = [] }) earlier ∷ faults_from g (name_of_op op ∷ earlier) ops) ≡ suc (length ops)
+    by_kind : length (faults_from g earlier ops) ≡ length ops → length (faults_from g (op.name ∷ earlier) ops) ≡ length ops → (b : Bool)
+        → length (if b then fault_of_deletion g op ∷ faults_from g earlier ops else fault_of_put g op earlier ∷ faults_from g (op.name ∷ earlier) ops) ≡ suc (length ops)
     by_kind behind past true = ap suc behind
     by_kind behind past false = ap suc past
 

@@ -11,12 +11,11 @@ use Rattle.record_model.specs.declared.draft.Draft.{Draft}
 use Rattle.record_model.specs.declared.records.Record.{Record}
 use Rattle.record_model.specs.declared.records.Body.{Body}
 use Rattle.record_model.specs.declared.records.Body.TheVariants.{Plain, Share}
-use Rattle.zone_model.specs.declared.operations.Op.{Op}
 use Rattle.zone_model.specs.Names.{same}
 use Rattle.name_rules.specs.Options.{is_some_and, or_else}
 use Rattle.record_model.specs.RecordForms.{share_in}
 use Rattle.zone_model.specs.Records.{record_at, is_share, IsAscending}
-use Rattle.zone_model.specs.Requests.{Putting, name_of_put, makes_new, changes_old, puts_in, has_share_type, new_parent, root_given}
+use Rattle.zone_model.specs.Requests.{NamedOp, makes_new, changes_old, puts_in, has_share_type, root_given}
 use Rattle.zone_model.specs.Sharing.{share_after}
 use Rattle.share_records.specs.ShareLists.{first_share}
 use Rattle.zone_model.specs.Putting.{new_record, changed_record, written_over, body_after}
@@ -24,7 +23,7 @@ use Rattle.zone_model.specs.Working.{working_view, mark_of, with_puts, is_share_
 use Rattle.zone_model.specs.Effect.{Request, working, body_without, is_put, is_left, after_leaving, after_puts}
 use Rattle.name_rules.proofs.NameLemmas.{same-true}
 use Rattle.zone_laws.proofs.RecordLaws.{none-some}
-use Rattle.zone_laws.proofs.WorkingLaws.{put_at, put_over, record_written, found-working, blank, blank-put}
+use Rattle.zone_laws.proofs.WorkingLaws.{put_at, put_over, record_written, found-working}
 use Rattle.zone_laws.proofs.AfterLaws.{found-after-puts}
 
 -- ---- cores
@@ -78,27 +77,24 @@ new_root false o d guid = refl
 abbrev pub root_begun : Draft → Option (List ℕ)
 root_begun d = if has_share_type d then root_given d else None
 
-pub new-root : (p : Putting) → (core (new_record p)).root ≡ root_begun p.draft
+pub new-root : (p : NamedOp) → (core (new_record p)).root ≡ root_begun p.draft
 new-root p = new_root (has_share_type p.draft) (root_given p.draft) p.draft p.guid
-
-new-blank : (p : Putting) → core (new_record p) ≡ core (new_record (blank p))
-new-blank p = ap (λ t. record { parent = new_parent p.draft; root = t; fields = (new_record p).fields }) (new-root p ∙ sym (new-root (blank p)))
 
 -- ---- puts over what is seen
 
-put_found : (s : Bool) (q p : Putting) (o : Option Putting) (x : List ℕ) → same x (name_of_put q) ≡ s → (o ≡ Some p → same x (name_of_put p) ≡ true) → cond s (Some q) o ≡ Some p → same x (name_of_put p) ≡ true
-put_found true q p o x is ih e = subst (λ (t : Putting). same x (name_of_put t) ≡ true) (same_Some q p e) is
+put_found : (s : Bool) (q p : NamedOp) (o : Option NamedOp) (x : List ℕ) → same x q.name ≡ s → (o ≡ Some p → same x p.name ≡ true) → cond s (Some q) o ≡ Some p → same x p.name ≡ true
+put_found true q p o x is ih e = subst (λ (t : NamedOp). same x t.name ≡ true) (same_Some q p e) is
 put_found false q p o x is ih e = ih e
 
-pub none_put : (p : Putting) → None ≡ Some p → ⊥
-none_put p e = both_ways false refl (ap (λ (o : Option Putting). option_map_or (λ _. true) o false) e)
+pub none_put : (p : NamedOp) → None ≡ Some p → ⊥
+none_put p e = both_ways false refl (ap (λ (o : Option NamedOp). option_map_or (λ _. true) o false) e)
 
-pub put-name : (ps : List Putting) (x : List ℕ) (p : Putting) → put_at ps x ≡ Some p → same x (name_of_put p) ≡ true
+pub put-name : (ps : List NamedOp) (x : List ℕ) (p : NamedOp) → put_at ps x ≡ Some p → same x p.name ≡ true
 put-name [] x p e = absurd (none_put p e)
-put-name (q ∷ ps) x p e = put_found (same x (name_of_put q)) q p (put_at ps x) x refl (put-name ps x p) e
+put-name (q ∷ ps) x p e = put_found (same x q.name) q p (put_at ps x) x refl (put-name ps x p) e
 
 -- a record that is seen, after a put of its name or none
-pub record Changed (seen : List Record) (i : Option Putting) (v : Record) : Type 0 where
+pub record Changed (seen : List Record) (i : Option NamedOp) (v : Record) : Type 0 where
   pub row : Record
   pub is : put_over seen i (Some v) ≡ Some row
   pub parent : row.parent ≡ v.parent
@@ -107,7 +103,7 @@ pub record Changed (seen : List Record) (i : Option Putting) (v : Record) : Type
   pub created : row.created ≡ v.created
   pub unput : i ≡ None → row ≡ v
 
-changed_by : (seen : List Record) (b : Bool) (p : Putting) (v : Record) → record_written seen p ≡ (if b then Some (changed_record p v) else None) → Changed seen (Some p) v
+changed_by : (seen : List Record) (b : Bool) (p : NamedOp) (v : Record) → record_written seen p ≡ (if b then Some (changed_record p v) else None) → Changed seen (Some p) v
 changed_by seen true p v is = record {
   row = changed_record p v;
   is = ap (λ o. option_map_or Some o (Some v)) is;
@@ -119,27 +115,27 @@ changed_by seen true p v is = record {
 }
 changed_by seen false p v is = record { row = v; is = ap (λ o. option_map_or Some o (Some v)) is; parent = refl; root = refl; share = refl; created = refl; unput = λ e. refl }
 
-pub changed_at : (seen : List Record) (ps : List Putting) (x : List ℕ) (i : Option Putting) (v : Record) → put_at ps x ≡ i → record_at seen x ≡ Some v → Changed seen i v
+pub changed_at : (seen : List Record) (ps : List NamedOp) (x : List ℕ) (i : Option NamedOp) (v : Record) → put_at ps x ≡ i → record_at seen x ≡ Some v → Changed seen i v
 changed_at seen ps x None v at is = record { row = v; is = refl; parent = refl; root = refl; share = refl; created = refl; unput = λ e. refl }
 changed_at seen ps x (Some p) v at is =
-    let name : x ≡ name_of_put p = same-true x (name_of_put p) (put-name ps x p at) in
+    let name : x ≡ p.name = same-true x p.name (put-name ps x p at) in
     changed_by seen (changes_old p.kind) p v (ap (written_over p) (ap (record_at seen) (sym name) ∙ is))
 
 -- a record that is not seen, after a put of its name
-pub record Begun (ps : List Putting) (x : List ℕ) (row : Record) : Type 0 where
-  pub put : Putting
+pub record Begun (ps : List NamedOp) (x : List ℕ) (row : Record) : Type 0 where
+  pub put : NamedOp
   pub at : put_at ps x ≡ Some put
   pub makes : makes_new put.kind ≡ true
   pub is : new_record put ≡ row
 
-begun_by : (ps : List Putting) (x : List ℕ) (b : Bool) (p : Putting) (w : Record) → put_at ps x ≡ Some p → makes_new p.kind ≡ b → option_map_or Some (if b then Some (new_record p) else None) None ≡ Some w → Begun ps x w
+begun_by : (ps : List NamedOp) (x : List ℕ) (b : Bool) (p : NamedOp) (w : Record) → put_at ps x ≡ Some p → makes_new p.kind ≡ b → option_map_or Some (if b then Some (new_record p) else None) None ≡ Some w → Begun ps x w
 begun_by ps x true p w at makes e = record { put = p; at = at; makes = makes; is = same_Some (new_record p) w e }
 begun_by ps x false p w at makes e = absurd (none-some None w refl e)
 
-pub begun_at : (seen : List Record) (ps : List Putting) (x : List ℕ) (i : Option Putting) (w : Record) → put_at ps x ≡ i → record_at seen x ≡ None → put_over seen i None ≡ Some w → Begun ps x w
+pub begun_at : (seen : List Record) (ps : List NamedOp) (x : List ℕ) (i : Option NamedOp) (w : Record) → put_at ps x ≡ i → record_at seen x ≡ None → put_over seen i None ≡ Some w → Begun ps x w
 begun_at seen ps x None w at is e = absurd (none-some None w refl e)
 begun_at seen ps x (Some p) w at is e =
-    let name : x ≡ name_of_put p = same-true x (name_of_put p) (put-name ps x p at) in
+    let name : x ≡ p.name = same-true x p.name (put-name ps x p at) in
     begun_by ps x (makes_new p.kind) p w at refl (ap (λ o. option_map_or Some (written_over p o) None) (sym (ap (record_at seen) (sym name) ∙ is)) ∙ e)
 
 -- ---- the working view
@@ -148,33 +144,10 @@ marked_core : (f : Record → Option (List ℕ)) (o : Option Record) → option_
 marked_core f None = refl
 marked_core f (Some r) = refl
 
-pub working-core : (scope : Scope) (seen : List Record) (ops : List Op) (guids : List (List ℕ)) (x : List ℕ)
-    → option_map core (record_at (working_view scope seen ops guids) x) ≡ option_map core (put_over seen (put_at (puts_in ops guids) x) (record_at seen x))
-working-core scope seen ops guids x = ap (option_map core) (found-working seen scope ops guids x)
-    ∙ marked_core (mark_of scope seen ops (with_puts seen ops guids)) (put_over seen (put_at (puts_in ops guids) x) (record_at seen x))
-
-blank_new : (b : Bool) (p : Putting) (o : Option Record) → option_map core (option_map_or Some (if b then Some (new_record p) else None) o) ≡ option_map core (option_map_or Some (if b then Some (new_record (blank p)) else None) o)
-blank_new true p o = ap Some (new-blank p)
-blank_new false p o = refl
-
-blank_old : (b : Bool) (p : Putting) (v : Record) (o : Option Record) → option_map core (option_map_or Some (if b then Some (changed_record p v) else None) o) ≡ option_map core (option_map_or Some (if b then Some (changed_record (blank p) v) else None) o)
-blank_old true p v o = refl
-blank_old false p v o = refl
-
-blank_written : (p : Putting) (r o : Option Record) → option_map core (option_map_or Some (written_over p r) o) ≡ option_map core (option_map_or Some (written_over (blank p) r) o)
-blank_written p None o = blank_new (makes_new p.kind) p o
-blank_written p (Some v) o = blank_old (changes_old p.kind) p v o
-
-blank_over : (seen : List Record) (i : Option Putting) (o : Option Record) → option_map core (put_over seen i o) ≡ option_map core (put_over seen (option_map blank i) o)
-blank_over seen None o = refl
-blank_over seen (Some p) o = blank_written p (record_at seen (name_of_put p)) o
-
--- GUIDs change no core
-pub same-working : (scope : Scope) (seen : List Record) (ops : List Op) (guids : List (List ℕ)) (x : List ℕ)
-    → option_map core (record_at (working_view scope seen ops guids) x) ≡ option_map core (record_at (working_view scope seen ops []) x)
-same-working scope seen ops guids x =
-    working-core scope seen ops guids x ∙ blank_over seen (put_at (puts_in ops guids) x) (record_at seen x)
-    ∙ ap (λ i. option_map core (put_over seen i (record_at seen x))) (blank-put ops guids x) ∙ sym (working-core scope seen ops [] x)
+pub working-core : (scope : Scope) (seen : List Record) (ops : List NamedOp) (x : List ℕ)
+    → option_map core (record_at (working_view scope seen ops) x) ≡ option_map core (put_over seen (put_at (puts_in ops) x) (record_at seen x))
+working-core scope seen ops x = ap (option_map core) (found-working seen scope ops x)
+    ∙ marked_core (mark_of scope seen ops (with_puts seen ops)) (put_over seen (put_at (puts_in ops) x) (record_at seen x))
 
 -- ---- after the puts
 

@@ -1,5 +1,5 @@
 -- What outcomes show of deletions.
-use Rattle.std.proofs.Common.{◌≡◌, ℕ, List, [], ◌∷◌, Bool, true, false, cond, not, ◌&&◌, ◌||◌, refl, sym, ap, ◌∙◌, subst, Some, None, Option, map}
+use Rattle.std.proofs.Common.{◌≡◌, ℕ, List, [], ◌∷◌, Bool, true, false, cond, not, ◌||◌, refl, sym, ap, ◌∙◌, subst, Some, None, Option, map}
 use Rattle.std.specs.Prelude.{find, filter, zip, is_some, if◌then◌else◌}
 use Rattle.std.specs.Option.{option_map_or, option_map}
 use Rattle.std.specs.List.{list_any, list_all, AllByRecursion}
@@ -13,7 +13,6 @@ use Rattle.record_model.specs.declared.records.Body.{Body}
 use Rattle.record_model.specs.declared.records.Body.TheVariants.{Plain, Share}
 use Rattle.record_model.specs.declared.records.Record.{Record}
 use Rattle.record_model.specs.RecordForms.{share_in}
-use Rattle.zone_model.specs.declared.operations.Op.{Op}
 use Rattle.zone_model.specs.declared.operations.Past.{Past}
 use Rattle.zone_model.specs.declared.outcomes.OpFault.{OpFault}
 use Rattle.zone_model.specs.declared.outcomes.Outcome.TheVariants.{Put as Answered, Deleted}
@@ -25,13 +24,13 @@ use Rattle.zone_model.specs.Records.{record_at, is_there, is_share, share_of}
 use Rattle.zone_model.specs.Zones.{zone_at, written_name}
 use Rattle.zone_model.specs.Views.{view_of}
 use Rattle.zone_model.specs.Past.{name_history}
-use Rattle.zone_model.specs.Requests.{Caller, Putting, is_deletion, name_of_op, name_of_put, first_guid, puts_in, guids_left, roots_in, names_deleted}
+use Rattle.zone_model.specs.Requests.{Caller, NamedOp, is_deletion, puts_in, roots_in, names_deleted}
 use Rattle.zone_model.specs.Grounds.{grounds_of, is_taken_by_deletion}
 use Rattle.zone_model.specs.Judging.{faults_of, has_fault}
-use Rattle.zone_model.specs.Effect.{Request, body_without, working, is_put, is_left, after_leaving, after_puts, removed, stamped, is_unmarked, is_written, final, write_of, writes, effect}
+use Rattle.zone_model.specs.Effect.{Request, body_without, working, is_put, is_left, after_leaving, after_puts, removed, stamped, is_written, final, write_of, writes, effect}
 use Rattle.zone_model.specs.Modifying.{done, outcome_of, request_at, judgement_at, modified_as_one}
-use Rattle.zone_model.specs.Lawful.{are_lawful}
-use Rattle.zone_laws.specs.Answering.{writes_made, IsAway, IsGone, IsShownGone, DeletionsAreWritten}
+use Rattle.zone_laws.specs.LawfulTests.{are_lawful}
+use Rattle.zone_laws.specs.Answering.{writes_made, IsGone, IsShownGone, DeletionsAreWritten}
 use Rattle.zone_laws.proofs.RecordLaws.{none-some, found-name}
 use Rattle.zone_laws.proofs.EffectLaws.{write_by}
 use Rattle.zone_laws.proofs.AfterLaws.{write_named, found-after-puts, left_same}
@@ -44,6 +43,7 @@ use Rattle.zone_laws.proofs.AnswerLaws.{all-refused}
 use Rattle.zone_laws.proofs.LawfulLaws.{is_fine}
 use Rattle.zone_laws.proofs.WrittenLaws.{found_write, found_put, made_writes}
 use Rattle.zone_laws.proofs.MadeLaws.{seen_there, private_by, put_stays}
+use Rattle.zone_laws.proofs.TestLaws.{in_turn_back}
 
 -- the share that a record is, in which the user is no more
 abbrev HasNot : List ℕ → Record → Type 0
@@ -108,71 +108,71 @@ module _ (q : Request) (pasts : List Past) (fine : IsFine q pasts) where
       let v = seen_there q.seen x (record_at q.seen x) refl there in
       deleted_by (is_taken_by_deletion q.caller q.seen x) x v.0 v.1 deleted refl
 
-module _ (caller : Caller) (moment : ℕ) (log : List Commit) (ops : List Op) (guids : List (List ℕ))
+module _ (caller : Caller) (moment : ℕ) (log : List Commit) (ops : List NamedOp)
     (lawful : are_lawful [] log ≡ true) (there : (zone_at log caller.key).there ≡ true) (roots : has_twice (roots_in ops) ≡ false) where
   abbrev its_request : Request
-  its_request = request_at caller moment log ops guids
+  its_request = request_at caller moment log ops
 
-  abbrev offers : List Putting → List ℕ → Bool
-  offers ps x = list_any (λ (t : Putting). same x (name_of_put t)) ps
+  abbrev offers : List NamedOp → List ℕ → Bool
+  offers ps x = list_any (λ (t : NamedOp). same x t.name) ps
 
-  abbrev deletes : List Op → List ℕ → Bool
+  abbrev deletes : List NamedOp → List ℕ → Bool
   deletes some x = is_in (names_deleted some) x
 
   module _ (judged : has_fault (judgement_at caller moment log ops) ≡ false) where
     fine : IsFine its_request (name_history log caller.key ops)
-    fine = is_fine caller moment log ops guids lawful there roots judged
+    fine = is_fine caller moment log ops lawful there roots judged
 
-    abbrev IsTold : Op → Type 0
+    abbrev IsTold : NamedOp → Type 0
     IsTold op = IsShownGone caller its_request.seen (writes its_request (removed its_request)) (done its_request op)
 
-    told : (d : Bool) (op : Op) → (d ≡ false → offers (puts_in ops guids) (name_of_op op) ≡ true) → (d ≡ true → deletes ops (name_of_op op) ≡ true)
-        → (o : Option Record) → record_at (working its_request) (name_of_op op) ≡ o
-        → IsShownGone caller its_request.seen (writes its_request (removed its_request)) (option_map_or (λ r. Answered (stamped its_request r)) (if d then None else o) (Deleted (name_of_op op)))
-    told true op offered deleted o is = deleted_gone its_request _ fine (name_of_op op) (deleted refl)
+    told : (d : Bool) (op : NamedOp) → (d ≡ false → offers (puts_in ops) op.name ≡ true) → (d ≡ true → deletes ops op.name ≡ true)
+        → (o : Option Record) → record_at (working its_request) op.name ≡ o
+        → IsShownGone caller its_request.seen (writes its_request (removed its_request)) (option_map_or (λ r. Answered (stamped its_request r)) (if d then None else o) (Deleted op.name))
+    told true op offered deleted o is = deleted_gone its_request _ fine op.name (deleted refl)
     told false op offered deleted (Some r) is = tt
     told false op offered deleted None is =
-        let p = found_put (puts_in ops guids) (name_of_op op) (offered refl) in
-        absurd (put_stays its_request _ fine (name_of_op op) p.0 p.1 is)
+        let p = found_put (puts_in ops) op.name (offered refl) in
+        absurd (put_stays its_request _ fine op.name p.0 p.1 is)
 
-    told_step : (d : Bool) (op : Op) (some : List Op) (gs : List (List ℕ)) → is_deletion op.kind ≡ d
-        → ((x : List ℕ) → offers (if d then puts_in some gs else record { kind = op.kind; draft = op.draft; guid = first_guid gs } ∷ puts_in some (guids_left op gs)) x ≡ true → offers (puts_in ops guids) x ≡ true)
-        → ((x : List ℕ) → is_in (map name_of_op (cond d (op ∷ filter (λ (o : Op). is_deletion o.kind) some) (filter (λ (o : Op). is_deletion o.kind) some))) x ≡ true → deletes ops x ≡ true)
-        → ((left : List (List ℕ)) → ((x : List ℕ) → offers (puts_in some left) x ≡ true → offers (puts_in ops guids) x ≡ true) → ((x : List ℕ) → deletes some x ≡ true → deletes ops x ≡ true) → AllByRecursion IsTold some)
+    told_step : (d : Bool) (op : NamedOp) (some : List NamedOp) → is_deletion op.kind ≡ d
+        → ((x : List ℕ) → offers (if not d then op ∷ puts_in some else puts_in some) x ≡ true → offers (puts_in ops) x ≡ true)
+        → ((x : List ℕ) → is_in (map (λ (o : NamedOp). o.name) (cond d (op ∷ filter (λ (o : NamedOp). is_deletion o.kind) some) (filter (λ (o : NamedOp). is_deletion o.kind) some))) x ≡ true → deletes ops x ≡ true)
+        → (((x : List ℕ) → offers (puts_in some) x ≡ true → offers (puts_in ops) x ≡ true) → ((x : List ℕ) → deletes some x ≡ true → deletes ops x ≡ true) → AllByRecursion IsTold some)
         → AllByRecursion IsTold (op ∷ some)
-    told_step true op some gs is offered deleted rest = (
-      told (is_deletion op.kind) op (λ f. absurd (both_ways (is_deletion op.kind) f is)) (λ _. deleted (name_of_op op) (or_left (same (name_of_op op) (name_of_op op)) _ (same-refl (name_of_op op))))
-          (record_at (working its_request) (name_of_op op)) refl,
-      rest gs offered (λ x i. deleted x (or_right (same x (name_of_op op)) _ i)),
+    told_step true op some is offered deleted rest = (
+      told (is_deletion op.kind) op (λ f. absurd (both_ways (is_deletion op.kind) f is)) (λ _. deleted op.name (or_left (same op.name op.name) _ (same-refl op.name)))
+          (record_at (working its_request) op.name) refl,
+      rest offered (λ x i. deleted x (or_right (same x op.name) _ i)),
     )
-    told_step false op some gs is offered deleted rest = (
-      told (is_deletion op.kind) op (λ _. offered (name_of_op op) (or_left (same (name_of_op op) (name_of_op op)) _ (same-refl (name_of_op op)))) (λ f. absurd (both_ways (is_deletion op.kind) is f))
-          (record_at (working its_request) (name_of_op op)) refl,
-      rest (guids_left op gs) (λ x i. offered x (or_right (same x (name_of_op op)) _ i)) deleted,
+    told_step false op some is offered deleted rest = (
+      told (is_deletion op.kind) op (λ _. offered op.name (or_left (same op.name op.name) _ (same-refl op.name))) (λ f. absurd (both_ways (is_deletion op.kind) is f))
+          (record_at (working its_request) op.name) refl,
+      rest (λ x i. offered x (or_right (same x op.name) _ i)) deleted,
     )
 
-    all_told : (some : List Op) (gs : List (List ℕ)) → ((x : List ℕ) → offers (puts_in some gs) x ≡ true → offers (puts_in ops guids) x ≡ true) → ((x : List ℕ) → deletes some x ≡ true → deletes ops x ≡ true) → AllByRecursion IsTold some
-    all_told [] gs offered deleted = tt
-    all_told (op ∷ some) gs offered deleted = told_step (is_deletion op.kind) op some gs refl offered deleted (λ left within gone. all_told some left within gone)
+    all_told : (some : List NamedOp) → ((x : List ℕ) → offers (puts_in some) x ≡ true → offers (puts_in ops) x ≡ true) → ((x : List ℕ) → deletes some x ≡ true → deletes ops x ≡ true) → AllByRecursion IsTold some
+    all_told [] offered deleted = tt
+    all_told (op ∷ some) offered deleted = told_step (is_deletion op.kind) op some refl offered deleted (λ within gone. all_told some within gone)
 
-  told_zip : (ws : List Write) (some : List Op) (faults : List (Option OpFault)) → AllByRecursion (λ (op : Op). IsShownGone caller its_request.seen ws (done its_request op)) some
+  told_zip : (ws : List Write) (some : List NamedOp) (faults : List (Option OpFault)) → AllByRecursion (λ (op : NamedOp). IsShownGone caller its_request.seen ws (done its_request op)) some
       → AllByRecursion (IsShownGone caller its_request.seen ws) (map (outcome_of its_request) (zip some faults))
   told_zip ws [] faults all = tt
   told_zip ws (op ∷ some) [] all = tt
   told_zip ws (op ∷ some) (None ∷ faults) all = (all.0, told_zip ws some faults all.1)
   told_zip ws (op ∷ some) (Some fault ∷ faults) all = (tt, told_zip ws some faults all.1)
 
-  refused_zip : (ws : List Write) (some : List Op) (faults : List (Option OpFault)) → list_all is_some faults ≡ true → AllByRecursion (IsShownGone caller its_request.seen ws) (map (outcome_of its_request) (zip some faults))
+  refused_zip : (ws : List Write) (some : List NamedOp) (faults : List (Option OpFault)) → list_all is_some faults ≡ true → AllByRecursion (IsShownGone caller its_request.seen ws) (map (outcome_of its_request) (zip some faults))
   refused_zip ws [] faults all = tt
   refused_zip ws (op ∷ some) [] all = tt
   refused_zip ws (op ∷ some) (None ∷ faults) all = absurd (both_ways false refl all)
   refused_zip ws (op ∷ some) (Some fault ∷ faults) all = (tt, refused_zip ws some faults all)
 
   told_at : (b : Bool) → has_fault (judgement_at caller moment log ops) ≡ b
-      → AllByRecursion (IsShownGone caller its_request.seen (writes_made (if b then [] else effect its_request))) (modified_as_one caller moment log ops guids).outcomes
+      → AllByRecursion (IsShownGone caller its_request.seen (writes_made (if b then [] else effect its_request))) (modified_as_one caller moment log ops).outcomes
   told_at true judged = refused_zip [] ops (judgement_at caller moment log ops) (all-refused (faults_of (grounds_of caller (name_history log caller.key ops) (view_of log caller.user caller.scope caller.key).rows ops) ops) judged)
-  told_at false judged = subst (λ ws. AllByRecursion (IsShownGone caller its_request.seen ws) (modified_as_one caller moment log ops guids).outcomes) (sym (made_writes its_request (writes its_request (removed its_request))))
-      (told_zip (writes its_request (removed its_request)) ops (judgement_at caller moment log ops) (all_told judged ops guids (λ x i. i) (λ x i. i)))
+  told_at false judged = subst (λ ws. AllByRecursion (IsShownGone caller its_request.seen ws) (modified_as_one caller moment log ops).outcomes) (sym (made_writes its_request (writes its_request (removed its_request))))
+      (told_zip (writes its_request (removed its_request)) ops (judgement_at caller moment log ops) (all_told judged ops (λ x i. i) (λ x i. i)))
 
 pub deletions_written : DeletionsAreWritten
-deletions_written caller moment log ops guids lawful there roots = told_at caller moment log ops guids lawful there roots (has_fault (judgement_at caller moment log ops)) refl
+deletions_written caller moment log ops lawful there roots = told_at caller moment log ops (in_turn_back [] log lawful) there roots (has_fault (judgement_at caller moment log ops)) refl

@@ -1,8 +1,8 @@
 -- What a request commits.
-use Rattle.std.proofs.Common.{◌≡◌, ℕ, suc, List, [], ◌∷◌, Bool, true, false, refl, sym, ap, ◌∙◌, subst, Some, None, Option, map}
+use Rattle.std.proofs.Common.{◌≡◌, ℕ, suc, List, [], ◌∷◌, Bool, true, false, refl, sym, ap, ◌∙◌, subst, Option, map}
 use Rattle.std.specs.Prelude.{◌==◌, filter, filter_map, fold, if◌then◌else◌}
 use Rattle.std.specs.List.{list_all, cons_option}
-use Rattle.std.proofs.lemmas.Bool.{and_parts, and_from, eq-eqb}
+use Rattle.std.proofs.lemmas.Bool.{eqb-true, and_parts, and_from, eq-eqb}
 use Rattle.ck_base.specs.Order.{is_before, are_ascending}
 use Rattle.record_model.specs.declared.records.Record.{Record}
 use Rattle.zone_model.specs.declared.commits.Write.{Write}
@@ -10,12 +10,13 @@ use Rattle.zone_model.specs.declared.commits.Write.TheVariants.{Put, Remove, Put
 use Rattle.zone_model.specs.Names.{is_in}
 use Rattle.zone_model.specs.Records.{names_in, IsAscending, with_record}
 use Rattle.zone_model.specs.Zones.{written_name}
-use Rattle.zone_model.specs.Effect.{Request, working, is_put, is_left, after_leaving, body_without, after_puts, removed, is_written, final, write_as, write_of}
+use Rattle.zone_model.specs.Effect.{writes, Request, working, is_put, is_left, after_leaving, body_without, after_puts, removed, is_written, final, write_as, write_of}
 use Rattle.zone_model.specs.Form.{are_in_order}
 use Rattle.zone_model.specs.Modifying.{request_at}
-use Rattle.zone_model.specs.Lawful.{has_next_tag}
-use Rattle.zone_laws.specs.Laws.{EffectsAreInOrder}
+use Rattle.zone_laws.specs.LawfulTests.{has_next_tag}
+use Rattle.zone_laws.specs.Laws.{EffectsAreInOrder, HasNextTag}
 use Rattle.zone_laws.proofs.OrderLaws.{ascending-with, ascending-zone}
+use Rattle.zone_laws.proofs.TestLaws.{all_so}
 
 -- ---- the records after the puts ascend
 
@@ -78,14 +79,19 @@ module _ (q : Request) (gone : List (List ℕ)) where
   tag_step false true r ws all = and_from (suc (q.puts r.name) == suc (q.puts r.name)) _ (eq-eqb (suc (q.puts r.name)) (suc (q.puts r.name)) refl) all
   tag_step false false r ws all = all
 
-  tags_next : (rows : List Record) → list_all (has_next_tag q.puts) (filter_map (write_of q gone) rows) ≡ true
+  pub tags_next : (rows : List Record) → list_all (has_next_tag q.puts) (filter_map (write_of q gone) rows) ≡ true
   tags_next [] = refl
   tags_next (r ∷ rows) = tag_step (is_in gone r.name) (is_written q gone r) r (filter_map (write_of q gone) rows) (tags_next rows)
 
+next_tag : (puts : List ℕ → ℕ) (w : Write) → has_next_tag puts w ≡ true → HasNextTag puts w
+next_tag puts (Put r) e = eqb-true r.tag (suc (puts r.name)) e
+next_tag puts (Remove x) e = tt
+next_tag puts (PutRemove x) e = tt
+
 pub effects_in_order : EffectsAreInOrder
 effects_in_order = record {
-  ordered = λ caller moment log ops guids.
-      let q = request_at caller moment log ops guids in
-      writes_ascend q (removed q) (after_puts q) (ascending-puts q (ascending-zone log caller.key));
-  tagged = λ q. tags_next q (removed q) (after_puts q);
+  ordered = λ caller moment log ops gone.
+      let q = request_at caller moment log ops in
+      writes_ascend q gone (after_puts q) (ascending-puts q (ascending-zone log caller.key));
+  tagged = λ q gone. all_so (has_next_tag q.puts) (HasNextTag q.puts) (writes q gone) (next_tag q.puts) (tags_next q gone (after_puts q));
 }

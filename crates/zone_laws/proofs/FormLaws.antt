@@ -109,6 +109,14 @@ pub every-append : {X : Type 0} (P : X → Type 0) (xs ys : List X) → AllByRec
 every-append P [] ys all more = more
 every-append P (x ∷ xs) ys all more = (all.0, every-append P xs ys all.1 more)
 
+pub every-front : {X : Type 0} (P : X → Type 0) (xs ys : List X) → AllByRecursion P (xs ++ ys) → AllByRecursion P xs
+every-front P [] ys all = tt
+every-front P (x ∷ xs) ys all = (all.0, every-front P xs ys all.1)
+
+pub every-back : {X : Type 0} (P : X → Type 0) (xs ys : List X) → AllByRecursion P (xs ++ ys) → AllByRecursion P ys
+every-back P [] ys all = all
+every-back P (x ∷ xs) ys all = every-back P xs ys all.1
+
 found_step : {X : Type 0} (b : Bool) (P : X → Type 0) (x y : X) (o : Option X) → P x → (o ≡ Some y → P y) → cond b (Some x) o ≡ Some y → P y
 found_step true P x y o one more e = subst P (same_Some x y e) one
 found_step false P x y o one more e = more e

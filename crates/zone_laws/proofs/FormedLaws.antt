@@ -25,7 +25,7 @@ use Rattle.name_rules.specs.Parents.{up}
 use Rattle.zone_model.specs.Coverage.{covers}
 use Rattle.share_records.specs.Permissions.{gives, has_accepted}
 use Rattle.zone_model.specs.Views.{nowhere, is_visible, owner_view, participant_view, view_of_zone, view_of}
-use Rattle.zone_model.specs.Lawful.{are_well_formed, is_lawful_act, is_lawful, are_lawful}
+use Rattle.zone_laws.specs.LawfulTests.{are_well_formed, is_lawful_act, is_lawful, are_lawful}
 use Rattle.name_rules.proofs.NameLemmas.{same-true, any-weaker}
 use Rattle.zone_laws.proofs.OrderLaws.{ascending-zone}
 use Rattle.zone_laws.proofs.AncestryLaws.{is_ancestor_from, is_ancestor_gives, parent_of-record, record_reaches, gives_at-records}

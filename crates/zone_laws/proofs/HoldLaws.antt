@@ -15,7 +15,7 @@ use Rattle.zone_model.specs.Records.{record_at, is_share}
 use Rattle.zone_model.specs.References.{goes_with, wants, references_in, deletes_self}
 use Rattle.zone_model.specs.Ancestry.{is_ancestor}
 use Rattle.name_rules.specs.Parents.{here}
-use Rattle.zone_model.specs.Requests.{Putting, name_of_put, puts_in, names_deleted}
+use Rattle.zone_model.specs.Requests.{NamedOp, puts_in, names_deleted}
 use Rattle.zone_model.specs.Working.{is_new_share_of, mark_of, with_puts, is_share_of}
 use Rattle.zone_model.specs.Grounds.{is_taken_by_deletion}
 use Rattle.zone_model.specs.DeletionChecks.{holds_back}
@@ -38,26 +38,26 @@ module _ (q : Request) (pasts : List Past) (fine : IsFine q pasts) where
   -- ---- the working view keeps what is seen
 
   pub seen-core : (x : List ℕ) (v w : Record) (seen : record_at q.seen x ≡ Some v) → record_at (working q) x ≡ Some w
-      → core w ≡ core (changed_at q.seen (puts_in q.ops q.guids) x (put_at (puts_in q.ops q.guids) x) v refl seen).row
+      → core w ≡ core (changed_at q.seen (puts_in q.ops) x (put_at (puts_in q.ops) x) v refl seen).row
   seen-core x v w seen is =
-      let puts = puts_in q.ops q.guids in
+      let puts = puts_in q.ops in
       let c = changed_at q.seen puts x (put_at puts x) v refl seen in
-      same_Some (core w) (core c.row) (sym (ap (option_map core) is) ∙ working-core q.caller.scope q.seen q.ops q.guids x ∙ ap (λ o. option_map core (put_over q.seen (put_at puts x) o)) seen ∙ ap (option_map core) c.is)
+      same_Some (core w) (core c.row) (sym (ap (option_map core) is) ∙ working-core q.caller.scope q.seen q.ops x ∙ ap (λ o. option_map core (put_over q.seen (put_at puts x) o)) seen ∙ ap (option_map core) c.is)
 
   pub seen-stays : (x : List ℕ) (v : Record) → record_at q.seen x ≡ Some v → (w : Record) × (record_at (working q) x ≡ Some w)
   seen-stays x v seen =
-      let puts = puts_in q.ops q.guids in
+      let puts = puts_in q.ops in
       let c = changed_at q.seen puts x (put_at puts x) v refl seen in
-      let mark : Record → Record = λ r. record r { share = mark_of q.caller.scope q.seen q.ops (with_puts q.seen q.ops q.guids) r } in
-      (mark c.row, found-working q.seen q.caller.scope q.ops q.guids x ∙ ap (λ o. option_map mark (put_over q.seen (put_at puts x) o)) seen ∙ ap (option_map mark) c.is)
+      let mark : Record → Record = λ r. record r { share = mark_of q.caller.scope q.seen q.ops (with_puts q.seen q.ops) r } in
+      (mark c.row, found-working q.seen q.caller.scope q.ops x ∙ ap (λ o. option_map mark (put_over q.seen (put_at puts x) o)) seen ∙ ap (option_map mark) c.is)
 
-  put_none : (i : Option Putting) (x : List ℕ) → put_at (puts_in q.ops q.guids) x ≡ i → is_put q x ≡ false → i ≡ None
+  put_none : (i : Option NamedOp) (x : List ℕ) → put_at (puts_in q.ops) x ≡ i → is_put q x ≡ false → i ≡ None
   put_none None x at off = refl
-  put_none (Some p) x at off = absurd (both_ways (is_put q x) off (or_left (list_any (λ (t : Putting). same x (name_of_put t)) (puts_in q.ops q.guids)) (list_any (is_new_share_of q.seen x) (working q)) (any_put (puts_in q.ops q.guids) x p at)))
+  put_none (Some p) x at off = absurd (both_ways (is_put q x) off (or_left (list_any (λ (t : NamedOp). same x t.name) (puts_in q.ops)) (list_any (is_new_share_of q.seen x) (working q)) (any_put (puts_in q.ops) x p at)))
 
   -- a name that is not put has no put
-  pub no-put : (x : List ℕ) → is_put q x ≡ false → put_at (puts_in q.ops q.guids) x ≡ None
-  no-put x off = put_none (put_at (puts_in q.ops q.guids) x) x refl off
+  pub no-put : (x : List ℕ) → is_put q x ≡ false → put_at (puts_in q.ops) x ≡ None
+  no-put x off = put_none (put_at (puts_in q.ops) x) x refl off
 
   fields_by : (b : Bool) (o : Option Record) (x : List ℕ) (a w : Record) → is_put q x ≡ b → record_at q.seen x ≡ o → record_at (after_puts q) x ≡ Some a → record_at (working q) x ≡ Some w → a.fields ≡ w.fields
   fields_by true o x a w put seen at is =
@@ -70,12 +70,12 @@ module _ (q : Request) (pasts : List Past) (fine : IsFine q pasts) where
       let new = new-in-working q pasts fine x w unseen is in
       absurd (none_put_at new.put (sym (no-put x put) ∙ new.at))
     where
-      none_put_at : (p : Putting) → None ≡ Some p → ⊥
-      none_put_at p e = both_ways false refl (ap (λ (t : Option Putting). option_map_or (λ _. true) t false) e)
+      none_put_at : (p : NamedOp) → None ≡ Some p → ⊥
+      none_put_at p e = both_ways false refl (ap (λ (t : Option NamedOp). option_map_or (λ _. true) t false) e)
   fields_by false (Some v) x a w put seen at is =
       let there = fine.part.part x v seen in
       let one : after_leaving q v ≡ a = same_Some (after_leaving q v) a (sym (after_is q pasts fine false (Some w) (Some v) x put is there) ∙ at) in
-      let c = changed_at q.seen (puts_in q.ops q.guids) x (put_at (puts_in q.ops q.guids) x) v refl seen in
+      let c = changed_at q.seen (puts_in q.ops) x (put_at (puts_in q.ops) x) v refl seen in
       ap (λ (r : Record). r.fields) (sym one) ∙ ap (λ (t : Core). t.fields) (leaving-core q v)
       ∙ ap (λ (r : Record). r.fields) (sym (c.unput (no-put x put))) ∙ ap (λ (t : Core). t.fields) (sym (seen-core x v w seen is))
 

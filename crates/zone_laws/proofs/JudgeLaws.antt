@@ -7,7 +7,6 @@ use Rattle.std.proofs.lemmas.Bool.{both_ways, or_cases, or_left, or_right, or_pa
 use Rattle.std.proofs.lemmas.Option.{same_Some}
 use Rattle.ck_base.specs.declared.key.ZoneKey.{ZoneKey}
 use Rattle.record_model.specs.declared.records.Record.{Record}
-use Rattle.zone_model.specs.declared.operations.Op.{Op}
 use Rattle.zone_model.specs.declared.operations.Past.{Past}
 use Rattle.zone_model.specs.declared.outcomes.OpFault.{OpFault}
 use Rattle.zone_model.specs.declared.outcomes.OpFault.TheVariants.{Exists, NotFound, Conflict, BadRequest, AccessDenied, Validating, Atomic}
@@ -17,7 +16,7 @@ use Rattle.name_rules.specs.Options.{is_some_and}
 use Rattle.zone_model.specs.Records.{record_at, is_there}
 use Rattle.zone_model.specs.Zones.{zone_at}
 use Rattle.zone_model.specs.Past.{past_of, name_history, is_taken}
-use Rattle.zone_model.specs.Requests.{Putting, is_deletion, name_of_op, name_of_put, puts_in, guids_left, draws_guid, names_deleted}
+use Rattle.zone_model.specs.Requests.{NamedOp, is_deletion, puts_in, names_deleted}
 use Rattle.zone_model.specs.Grounds.{Grounds, first_fault}
 use Rattle.zone_model.specs.PutChecks.{is_in_view, is_hidden, has_shared_root, is_missing, is_in_conflict, lacks_type, turns_type, turns_parent, lacks_root, is_misplaced_share, is_of_share, has_share_members, has_refused_list, is_too_large, has_bad_form, is_denied, has_bad_parent, has_bad_root, is_dangling, is_name_taken, fault_of_put}
 use Rattle.zone_model.specs.DeletionChecks.{holds_back, fault_of_deletion, is_held_back, is_missing as lacks, is_in_conflict as is_in_conflict_with, is_denied as is_denied_deletion}
@@ -66,40 +65,29 @@ none-refused faults e = apart_step (has_fault faults) faults refl e
 
 -- ---- puts
 
-no_guids_left : (op : Op) (ops : List Op) → puts_in ops (guids_left op []) ≡ puts_in ops []
-no_guids_left op ops = by (draws_guid op)
-  where
-    by : (b : Bool) → puts_in ops (if b then [] else []) ≡ puts_in ops []
-    by true = refl
-    by false = refl
-
-abbrev PassesSomewhere : Grounds → Putting → Type 0
+abbrev PassesSomewhere : Grounds → NamedOp → Type 0
 PassesSomewhere g p = (earlier : List (List ℕ)) × (fault_of_put g p earlier ≡ None)
 
-put_head : (s : Bool) (g : Grounds) (p q : Putting) (earlier : List (List ℕ)) (o : Option Putting) → fault_of_put g p earlier ≡ None → (o ≡ Some q → PassesSomewhere g q) → cond s (Some p) o ≡ Some q → PassesSomewhere g q
-put_head true g p q earlier o passed more e = (earlier, subst (λ (t : Putting). fault_of_put g t earlier ≡ None) (same_Some p q e) passed)
+put_head : (s : Bool) (g : Grounds) (p q : NamedOp) (earlier : List (List ℕ)) (o : Option NamedOp) → fault_of_put g p earlier ≡ None → (o ≡ Some q → PassesSomewhere g q) → cond s (Some p) o ≡ Some q → PassesSomewhere g q
+put_head true g p q earlier o passed more e = (earlier, subst (λ (t : NamedOp). fault_of_put g t earlier ≡ None) (same_Some p q e) passed)
 put_head false g p q earlier o passed more e = more e
 
-abbrev bare : Op → Putting
-bare op = record { kind = op.kind; draft = op.draft; guid = [] }
-
-put_step : (d : Bool) (g : Grounds) (op : Op) (ops : List Op) (earlier : List (List ℕ)) (x : List ℕ) (p : Putting)
-    → ((some : List (List ℕ)) → has_fault (faults_from g some ops) ≡ false → put_at (puts_in ops []) x ≡ Some p → PassesSomewhere g p)
-    → has_fault (if d then fault_of_deletion g op ∷ faults_from g earlier ops else fault_of_put g (bare op) earlier ∷ faults_from g (name_of_op op ∷ earlier) ops) ≡ false
-    → put_at (if d then puts_in ops [] else bare op ∷ puts_in ops (guids_left op [])) x ≡ Some p → PassesSomewhere g p
+put_step : (d : Bool) (g : Grounds) (op : NamedOp) (ops : List NamedOp) (earlier : List (List ℕ)) (x : List ℕ) (p : NamedOp)
+    → ((some : List (List ℕ)) → has_fault (faults_from g some ops) ≡ false → put_at (puts_in ops) x ≡ Some p → PassesSomewhere g p)
+    → has_fault (if d then fault_of_deletion g op ∷ faults_from g earlier ops else fault_of_put g op earlier ∷ faults_from g (op.name ∷ earlier) ops) ≡ false
+    → put_at (if not d then op ∷ puts_in ops else puts_in ops) x ≡ Some p → PassesSomewhere g p
 put_step true g op ops earlier x p more none at = more earlier (or_parts (is_some (fault_of_deletion g op)) _ none).1 at
 put_step false g op ops earlier x p more none at =
-    let parts = or_parts (is_some (fault_of_put g (bare op) earlier)) _ none in
-    put_head (same x (name_of_op op)) g (bare op) p earlier (put_at (puts_in ops []) x) (none_is (fault_of_put g (bare op) earlier) parts.0) (more (name_of_op op ∷ earlier) parts.1)
-    (ap (λ ps. put_at (bare op ∷ ps) x) (sym (no_guids_left op ops)) ∙ at)
+    let parts = or_parts (is_some (fault_of_put g op earlier)) _ none in
+    put_head (same x op.name) g op p earlier (put_at (puts_in ops) x) (none_is (fault_of_put g op earlier) parts.0) (more (op.name ∷ earlier) parts.1) at
 
 -- each first put of a name has passed its checks
-pub put-passes : (g : Grounds) (ops : List Op) (earlier : List (List ℕ)) (x : List ℕ) (p : Putting) → has_fault (faults_from g earlier ops) ≡ false → put_at (puts_in ops []) x ≡ Some p → PassesSomewhere g p
-put-passes g [] earlier x p none at = absurd (both_ways false refl (ap (λ (q : Option Putting). option_map_or (λ _. true) q false) at))
+pub put-passes : (g : Grounds) (ops : List NamedOp) (earlier : List (List ℕ)) (x : List ℕ) (p : NamedOp) → has_fault (faults_from g earlier ops) ≡ false → put_at (puts_in ops) x ≡ Some p → PassesSomewhere g p
+put-passes g [] earlier x p none at = absurd (both_ways false refl (ap (λ (q : Option NamedOp). option_map_or (λ _. true) q false) at))
 put-passes g (op ∷ ops) earlier x p none at = put_step (is_deletion op.kind) g op ops earlier x p (λ some none at. put-passes g ops some x p none at) none at
 
 -- what the checks of a put leave
-pub record Passed (g : Grounds) (p : Putting) : Type 0 where
+pub record Passed (g : Grounds) (p : NamedOp) : Type 0 where
   pub unseen : is_in_view g p ≡ false
   pub unhidden : is_hidden g p ≡ false
   pub root_free : has_shared_root g p ≡ false
@@ -113,12 +101,12 @@ pub record Passed (g : Grounds) (p : Putting) : Type 0 where
   pub parent_good : has_bad_parent g p ≡ false
   pub root_good : has_bad_root g p ≡ false
 
-pub passed-from : (g : Grounds) (p : Putting) (earlier : List (List ℕ)) → fault_of_put g p earlier ≡ None → Passed g p
+pub passed-from : (g : Grounds) (p : NamedOp) (earlier : List (List ℕ)) → fault_of_put g p earlier ≡ None → Passed g p
 passed-from g p earlier e =
     let all = six_pass (is_name_taken g p earlier) (is_missing g p) (is_in_conflict g p) (has_bad_form g p) (is_denied g p) (is_dangling g p) e in
     let a = or_parts (is_in_view g p) _ all.0 in
     let b = or_parts (is_hidden g p) _ a.1 in
-    let c = or_parts (is_in earlier (name_of_put p)) _ b.1 in
+    let c = or_parts (is_in earlier p.name) _ b.1 in
     let f1 = or_parts (lacks_type g p) _ all.3 in
     let f2 = or_parts (turns_type g p) _ f1.1 in
     let f3 = or_parts (turns_parent g p) _ f2.1 in
@@ -143,38 +131,38 @@ passed-from g p earlier e =
       root_good = r.0;
     }
 
-pub put-passed : (g : Grounds) (ops : List Op) (x : List ℕ) (p : Putting) → has_fault (faults_of g ops) ≡ false → put_at (puts_in ops []) x ≡ Some p → Passed g p
+pub put-passed : (g : Grounds) (ops : List NamedOp) (x : List ℕ) (p : NamedOp) → has_fault (faults_of g ops) ≡ false → put_at (puts_in ops) x ≡ Some p → Passed g p
 put-passed g ops x p none at = let one = put-passes g ops [] x p (sym (ap has_fault (faults_told g ops)) ∙ none) at in passed-from g p one.0 one.1
 
 -- ---- deletions
 
 abbrev DeletionPasses : Grounds → List ℕ → Type 0
-DeletionPasses g x = (op : Op) × (name_of_op op ≡ x) × (fault_of_deletion g op ≡ None)
+DeletionPasses g x = (op : NamedOp) × (op.name ≡ x) × (fault_of_deletion g op ≡ None)
 
-abbrev deletions : List Op → List Op
-deletions ops = filter (λ (op : Op). is_deletion op.kind) ops
+abbrev deletions : List NamedOp → List NamedOp
+deletions ops = filter (λ (op : NamedOp). is_deletion op.kind) ops
 
-deletion_step : (d : Bool) (g : Grounds) (op : Op) (ops : List Op) (earlier : List (List ℕ)) (x : List ℕ)
+deletion_step : (d : Bool) (g : Grounds) (op : NamedOp) (ops : List NamedOp) (earlier : List (List ℕ)) (x : List ℕ)
     → ((some : List (List ℕ)) → has_fault (faults_from g some ops) ≡ false → is_in (names_deleted ops) x ≡ true → DeletionPasses g x)
-    → has_fault (if d then fault_of_deletion g op ∷ faults_from g earlier ops else fault_of_put g (bare op) earlier ∷ faults_from g (name_of_op op ∷ earlier) ops) ≡ false
-    → is_in (map name_of_op (cond d (op ∷ deletions ops) (deletions ops))) x ≡ true → DeletionPasses g x
+    → has_fault (if d then fault_of_deletion g op ∷ faults_from g earlier ops else fault_of_put g op earlier ∷ faults_from g (op.name ∷ earlier) ops) ≡ false
+    → is_in (map (λ (o : NamedOp). o.name) (cond d (op ∷ deletions ops) (deletions ops))) x ≡ true → DeletionPasses g x
 deletion_step true g op ops earlier x more none at =
     let parts = or_parts (is_some (fault_of_deletion g op)) _ none in
-    ⊎_elim (λ (s : same x (name_of_op op) ≡ true). (op, sym (same-true x (name_of_op op) s), none_is (fault_of_deletion g op) parts.0))
-    (λ (t : is_in (names_deleted ops) x ≡ true). more earlier parts.1 t) (or_cases (same x (name_of_op op)) (is_in (names_deleted ops) x) at)
-deletion_step false g op ops earlier x more none at = more (name_of_op op ∷ earlier) (or_parts (is_some (fault_of_put g (bare op) earlier)) _ none).1 at
+    ⊎_elim (λ (s : same x op.name ≡ true). (op, sym (same-true x op.name s), none_is (fault_of_deletion g op) parts.0))
+    (λ (t : is_in (names_deleted ops) x ≡ true). more earlier parts.1 t) (or_cases (same x op.name) (is_in (names_deleted ops) x) at)
+deletion_step false g op ops earlier x more none at = more (op.name ∷ earlier) (or_parts (is_some (fault_of_put g op earlier)) _ none).1 at
 
-deletion-passes : (g : Grounds) (ops : List Op) (earlier : List (List ℕ)) (x : List ℕ) → has_fault (faults_from g earlier ops) ≡ false → is_in (names_deleted ops) x ≡ true → DeletionPasses g x
+deletion-passes : (g : Grounds) (ops : List NamedOp) (earlier : List (List ℕ)) (x : List ℕ) → has_fault (faults_from g earlier ops) ≡ false → is_in (names_deleted ops) x ≡ true → DeletionPasses g x
 deletion-passes g [] earlier x none at = absurd (both_ways false refl at)
 deletion-passes g (op ∷ ops) earlier x none at = deletion_step (is_deletion op.kind) g op ops earlier x (λ some none at. deletion-passes g ops some x none at) none at
 
-unheld_from : (g : Grounds) (op : Op) → fault_of_deletion g op ≡ None → is_in g.taken (name_of_op op) ≡ true → list_any (holds_back g (name_of_op op)) g.working ≡ false
+unheld_from : (g : Grounds) (op : NamedOp) → fault_of_deletion g op ≡ None → is_in g.taken op.name ≡ true → list_any (holds_back g op.name) g.working ≡ false
 unheld_from g op e taken =
     let passed = last_passes (lacks g op) (is_in_conflict_with g op) (is_denied_deletion g op) (is_held_back g op) e in
-    ap (λ b. b && list_any (holds_back g (name_of_op op)) g.working) (sym taken) ∙ passed
+    ap (λ b. b && list_any (holds_back g op.name) g.working) (sym taken) ∙ passed
 
 -- nothing holds back a name that a deletion takes
-pub taken-unheld : (g : Grounds) (ops : List Op) (x : List ℕ) → has_fault (faults_of g ops) ≡ false → is_in (names_deleted ops) x ≡ true → is_in g.taken x ≡ true → list_any (holds_back g x) g.working ≡ false
+pub taken-unheld : (g : Grounds) (ops : List NamedOp) (x : List ℕ) → has_fault (faults_of g ops) ≡ false → is_in (names_deleted ops) x ≡ true → is_in g.taken x ≡ true → list_any (holds_back g x) g.working ≡ false
 taken-unheld g ops x none deleted taken =
     let one = deletion-passes g ops [] x (sym (ap has_fault (faults_told g ops)) ∙ none) deleted in
     subst (λ y. list_any (holds_back g y) g.working ≡ false) one.1 (unheld_from g one.0 one.2 (subst (λ y. is_in g.taken y ≡ true) (sym one.1) taken))
@@ -211,13 +199,13 @@ pub in_distinct : (ys : List (List ℕ)) (x : List ℕ) → is_in ys x ≡ true 
 in_distinct [] x i = i
 in_distinct (y ∷ ys) x i = distinct_step (is_in ys y) y x ys refl (in_distinct ys x) i
 
-put_in_step : (s : Bool) (q p : Putting) (o : Option Putting) (names : List (List ℕ)) (x : List ℕ) → same x (name_of_put q) ≡ s → (o ≡ Some p → is_in names x ≡ true) → cond s (Some q) o ≡ Some p → (same x (name_of_put q) || is_in names x) ≡ true
-put_in_step true q p o names x is ih e = or_left (same x (name_of_put q)) (is_in names x) is
-put_in_step false q p o names x is ih e = or_right (same x (name_of_put q)) (is_in names x) (ih e)
+put_in_step : (s : Bool) (q p : NamedOp) (o : Option NamedOp) (names : List (List ℕ)) (x : List ℕ) → same x q.name ≡ s → (o ≡ Some p → is_in names x ≡ true) → cond s (Some q) o ≡ Some p → (same x q.name || is_in names x) ≡ true
+put_in_step true q p o names x is ih e = or_left (same x q.name) (is_in names x) is
+put_in_step false q p o names x is ih e = or_right (same x q.name) (is_in names x) (ih e)
 
-put_named : (ps : List Putting) (x : List ℕ) (p : Putting) → put_at ps x ≡ Some p → is_in (map name_of_put ps) x ≡ true
-put_named [] x p e = absurd (both_ways false refl (ap (λ (q : Option Putting). option_map_or (λ _. true) q false) e))
-put_named (q ∷ ps) x p e = put_in_step (same x (name_of_put q)) q p (put_at ps x) (map name_of_put ps) x refl (put_named ps x p) e
+put_named : (ps : List NamedOp) (x : List ℕ) (p : NamedOp) → put_at ps x ≡ Some p → is_in (map (λ (q : NamedOp). q.name) ps) x ≡ true
+put_named [] x p e = absurd (both_ways false refl (ap (λ (q : Option NamedOp). option_map_or (λ _. true) q false) e))
+put_named (q ∷ ps) x p e = put_in_step (same x q.name) q p (put_at ps x) (map (λ (q : NamedOp). q.name) ps) x refl (put_named ps x p) e
 
 taken_step : (s : Bool) (log : List Commit) (key : ZoneKey) (y x : List ℕ) (names : List (List ℕ)) (o : Option Past) → same x y ≡ s
     → (is_in names x ≡ true → is_some_and (λ (p : Past). p.taken) o ≡ is_there (zone_at log key).rows x) → (s || is_in names x) ≡ true
@@ -230,5 +218,5 @@ taken_in log key [] x i = absurd (both_ways false refl i)
 taken_in log key (y ∷ names) x i = taken_step (same x y) log key y x names (find (λ (p : Past). same x p.name) (map (past_of log key) names)) refl (taken_in log key names x) i
 
 -- the history of the names tells which of them are taken
-pub past-taken : (log : List Commit) (key : ZoneKey) (ops : List Op) (x : List ℕ) (p : Putting) → put_at (puts_in ops []) x ≡ Some p → is_taken (name_history log key ops) x ≡ is_there (zone_at log key).rows x
-past-taken log key ops x p e = taken_in log key (distinct (map name_of_put (puts_in ops []))) x (in_distinct (map name_of_put (puts_in ops [])) x (put_named (puts_in ops []) x p e))
+pub past-taken : (log : List Commit) (key : ZoneKey) (ops : List NamedOp) (x : List ℕ) (p : NamedOp) → put_at (puts_in ops) x ≡ Some p → is_taken (name_history log key ops) x ≡ is_there (zone_at log key).rows x
+past-taken log key ops x p e = taken_in log key (distinct (map (λ (o : NamedOp). o.name) (puts_in ops))) x (in_distinct (map (λ (o : NamedOp). o.name) (puts_in ops)) x (put_named (puts_in ops) x p e))

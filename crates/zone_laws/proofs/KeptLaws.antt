@@ -10,22 +10,22 @@ use Rattle.zone_model.specs.declared.operations.Past.{Past}
 use Rattle.zone_model.specs.Names.{same, has_twice}
 use Rattle.name_rules.specs.Options.{or_else}
 use Rattle.zone_model.specs.Records.{record_at, is_there, IsAscending}
-use Rattle.zone_model.specs.Requests.{roots_in, Putting, name_of_put, makes_new, puts_in}
+use Rattle.zone_model.specs.Requests.{roots_in, NamedOp, makes_new, puts_in}
 use Rattle.zone_model.specs.Past.{is_taken}
 use Rattle.zone_model.specs.Putting.{new_record}
 use Rattle.zone_model.specs.Grounds.{Grounds, grounds_of}
 use Rattle.zone_model.specs.PutChecks.{is_new}
 use Rattle.zone_model.specs.Judging.{faults_of, has_fault}
-use Rattle.zone_model.specs.Lawful.{fits_in, are_well_formed}
+use Rattle.zone_laws.specs.LawfulTests.{fits_in, are_well_formed}
 use Rattle.zone_model.specs.Working.{is_new_share_of}
 use Rattle.zone_model.specs.Effect.{Request, working, is_put, after_leaving, after_puts}
 use Rattle.name_rules.proofs.NameLemmas.{same-true}
 use Rattle.zone_laws.proofs.RecordLaws.{none-some, found-all}
-use Rattle.zone_laws.proofs.WorkingLaws.{put_at, put_over, blank, blank-put}
+use Rattle.zone_laws.proofs.WorkingLaws.{put_at, put_over}
 use Rattle.zone_laws.proofs.AfterLaws.{found-after-puts}
 use Rattle.zone_laws.proofs.FormedLaws.{IsPart}
 use Rattle.zone_laws.proofs.JudgeLaws.{Passed, put-passed, there-found}
-use Rattle.zone_laws.proofs.CoreLaws.{Core, core, leaving-core, put-name, changed_at, begun_at, working-core, same-working}
+use Rattle.zone_laws.proofs.CoreLaws.{Core, core, leaving-core, put-name, changed_at, begun_at, working-core}
 
 -- what the judgement of the request rests on
 abbrev pub ground : Request → List Past → Grounds
@@ -38,37 +38,34 @@ pub record IsFine (q : Request) (pasts : List Past) : Type 0 where
   pub formed : are_well_formed q.rows ≡ true
   pub part : IsPart q.seen q.rows
   pub judged : has_fault (faults_of (ground q pasts) q.ops) ≡ false
-  pub history : (x : List ℕ) (p : Putting) → put_at (puts_in q.ops []) x ≡ Some p → is_taken pasts x ≡ is_there q.rows x
+  pub history : (x : List ℕ) (p : NamedOp) → put_at (puts_in q.ops) x ≡ Some p → is_taken pasts x ≡ is_there q.rows x
   pub roots : has_twice (roots_in q.ops) ≡ false
 
-any_put_step : (s : Bool) (q p : Putting) (ps : List Putting) (x : List ℕ) → same x (name_of_put q) ≡ s → (put_at ps x ≡ Some p → list_any (λ (t : Putting). same x (name_of_put t)) ps ≡ true)
-    → cond s (Some q) (put_at ps x) ≡ Some p → (same x (name_of_put q) || list_any (λ (t : Putting). same x (name_of_put t)) ps) ≡ true
-any_put_step true q p ps x is ih e = or_left (same x (name_of_put q)) _ is
-any_put_step false q p ps x is ih e = or_right (same x (name_of_put q)) _ (ih e)
+any_put_step : (s : Bool) (q p : NamedOp) (ps : List NamedOp) (x : List ℕ) → same x q.name ≡ s → (put_at ps x ≡ Some p → list_any (λ (t : NamedOp). same x t.name) ps ≡ true)
+    → cond s (Some q) (put_at ps x) ≡ Some p → (same x q.name || list_any (λ (t : NamedOp). same x t.name) ps) ≡ true
+any_put_step true q p ps x is ih e = or_left (same x q.name) _ is
+any_put_step false q p ps x is ih e = or_right (same x q.name) _ (ih e)
 
-pub any_put : (ps : List Putting) (x : List ℕ) (p : Putting) → put_at ps x ≡ Some p → list_any (λ (t : Putting). same x (name_of_put t)) ps ≡ true
-any_put [] x p e = absurd (both_ways false refl (ap (λ (o : Option Putting). option_map_or (λ _. true) o false) e))
-any_put (q ∷ ps) x p e = any_put_step (same x (name_of_put q)) q p ps x refl (any_put ps x p) e
+pub any_put : (ps : List NamedOp) (x : List ℕ) (p : NamedOp) → put_at ps x ≡ Some p → list_any (λ (t : NamedOp). same x t.name) ps ≡ true
+any_put [] x p e = absurd (both_ways false refl (ap (λ (o : Option NamedOp). option_map_or (λ _. true) o false) e))
+any_put (q ∷ ps) x p e = any_put_step (same x q.name) q p ps x refl (any_put ps x p) e
 
 module _ (q : Request) (pasts : List Past) (fine : IsFine q pasts) where
   -- the checks that a put has passed
-  pub checked : (x : List ℕ) (p : Putting) → put_at (puts_in q.ops q.guids) x ≡ Some p → Passed (ground q pasts) (blank p)
-  checked x p at = put-passed (ground q pasts) q.ops x (blank p) fine.judged (sym (blank-put q.ops q.guids x) ∙ ap (option_map blank) at)
+  pub checked : (x : List ℕ) (p : NamedOp) → put_at (puts_in q.ops) x ≡ Some p → Passed (ground q pasts) p
+  checked x p at = put-passed (ground q pasts) q.ops x p fine.judged (at)
 
-  bare_at : (x : List ℕ) (p : Putting) → put_at (puts_in q.ops q.guids) x ≡ Some p → put_at (puts_in q.ops []) x ≡ Some (blank p)
-  bare_at x p at = sym (blank-put q.ops q.guids x) ∙ ap (option_map blank) at
-
-  pub is-new : (x : List ℕ) (p : Putting) → put_at (puts_in q.ops q.guids) x ≡ Some p → record_at q.seen x ≡ None → is_new (ground q pasts) (blank p) ≡ true
-  is-new x p at unseen = ap not (ap (is_there q.seen) (sym (same-true x (name_of_put p) (put-name (puts_in q.ops q.guids) x p at))) ∙ there-found q.seen x ∙ ap is_some unseen)
+  pub is-new : (x : List ℕ) (p : NamedOp) → put_at (puts_in q.ops) x ≡ Some p → record_at q.seen x ≡ None → is_new (ground q pasts) p ≡ true
+  is-new x p at unseen = ap not (ap (is_there q.seen) (sym (same-true x p.name (put-name (puts_in q.ops) x p at))) ∙ there-found q.seen x ∙ ap is_some unseen)
 
   -- what begins a life is not there
-  pub not_hidden : (x : List ℕ) (p : Putting) (z : Record) → put_at (puts_in q.ops q.guids) x ≡ Some p → makes_new p.kind ≡ true → record_at q.seen x ≡ None → record_at q.rows x ≡ Some z → ⊥
+  pub not_hidden : (x : List ℕ) (p : NamedOp) (z : Record) → put_at (puts_in q.ops) x ≡ Some p → makes_new p.kind ≡ true → record_at q.seen x ≡ None → record_at q.rows x ≡ Some z → ⊥
   not_hidden x p z at makes unseen there =
-      let name : x ≡ name_of_put p = same-true x (name_of_put p) (put-name (puts_in q.ops q.guids) x p at) in
-      let taken : is_taken pasts (name_of_put p) ≡ true = subst (λ y. is_taken pasts y ≡ true) name (fine.history x (blank p) (bare_at x p at) ∙ there-found q.rows x ∙ ap is_some there) in
-      both_ways _ (checked x p at).unhidden (and_from (makes_new p.kind) _ makes (and_from (is_new (ground q pasts) (blank p)) _ (is-new x p at unseen) taken))
+      let name : x ≡ p.name = same-true x p.name (put-name (puts_in q.ops) x p at) in
+      let taken : is_taken pasts p.name ≡ true = subst (λ y. is_taken pasts y ≡ true) name (fine.history x p at ∙ there-found q.rows x ∙ ap is_some there) in
+      both_ways _ (checked x p at).unhidden (and_from (makes_new p.kind) _ makes (and_from (is_new (ground q pasts) p) _ (is-new x p at unseen) taken))
 
-  not_there_by : (o : Option Record) (x : List ℕ) (p : Putting) → record_at q.rows x ≡ o → put_at (puts_in q.ops q.guids) x ≡ Some p → makes_new p.kind ≡ true → record_at q.seen x ≡ None → o ≡ None
+  not_there_by : (o : Option Record) (x : List ℕ) (p : NamedOp) → record_at q.rows x ≡ o → put_at (puts_in q.ops) x ≡ Some p → makes_new p.kind ≡ true → record_at q.seen x ≡ None → o ≡ None
   not_there_by None x p is at makes unseen = refl
   not_there_by (Some z) x p is at makes unseen = absurd (not_hidden x p z at makes unseen is)
 
@@ -81,16 +78,16 @@ module _ (q : Request) (pasts : List Past) (fine : IsFine q pasts) where
 
   pub seen-in-working : (x : List ℕ) (v w : Record) → record_at q.seen x ≡ Some v → record_at (working q) x ≡ Some w → Seen v w
   seen-in-working x v w seen is =
-      let puts = puts_in q.ops q.guids in
+      let puts = puts_in q.ops in
       let c = changed_at q.seen puts x (put_at puts x) v refl seen in
       let same_core : core w ≡ core c.row = same_Some (core w) (core c.row)
-      (sym (ap (option_map core) is) ∙ working-core q.caller.scope q.seen q.ops q.guids x ∙ ap (λ o. option_map core (put_over q.seen (put_at puts x) o)) seen ∙ ap (option_map core) c.is) in
+      (sym (ap (option_map core) is) ∙ working-core q.caller.scope q.seen q.ops x ∙ ap (λ o. option_map core (put_over q.seen (put_at puts x) o)) seen ∙ ap (option_map core) c.is) in
       record { parent = ap (λ (t : Core). t.parent) same_core ∙ c.parent; root = ap (λ (t : Core). t.root) same_core ∙ c.root }
 
   -- a record that is only in the working view
   pub record New (x : List ℕ) (w : Record) : Type 0 where
-    pub put : Putting
-    pub at : put_at (puts_in q.ops q.guids) x ≡ Some put
+    pub put : NamedOp
+    pub at : put_at (puts_in q.ops) x ≡ Some put
     pub makes : makes_new put.kind ≡ true
     pub is : core w ≡ core (new_record put)
     pub unseen : record_at q.seen x ≡ None
@@ -102,9 +99,9 @@ module _ (q : Request) (pasts : List Past) (fine : IsFine q pasts) where
 
   pub new-in-working : (x : List ℕ) (w : Record) → record_at q.seen x ≡ None → record_at (working q) x ≡ Some w → New x w
   new-in-working x w unseen is =
-      let puts = puts_in q.ops q.guids in
+      let puts = puts_in q.ops in
       let r = begun_core (put_over q.seen (put_at puts x) None) w
-      (sym (ap (option_map core) is) ∙ working-core q.caller.scope q.seen q.ops q.guids x ∙ ap (λ o. option_map core (put_over q.seen (put_at puts x) o)) unseen) in
+      (sym (ap (option_map core) is) ∙ working-core q.caller.scope q.seen q.ops x ∙ ap (λ o. option_map core (put_over q.seen (put_at puts x) o)) unseen) in
       let b = begun_at q.seen puts x (put_at puts x) r.0 refl unseen r.1 in
       record { put = b.put; at = b.at; makes = b.makes; is = r.2 ∙ ap core (sym b.is); unseen = unseen; absent = not_there_by (record_at q.rows x) x b.put refl b.at b.makes unseen }
 
@@ -192,7 +189,7 @@ module _ (q : Request) (pasts : List Past) (fine : IsFine q pasts) where
       record { row = old.row; at = old.at; parent = old.parent ∙ sym c.parent; root = old.root ∙ sym c.root }
   reached_by None x w unseen is =
       let new = new-in-working x w unseen is in
-      let put : is_put q x ≡ true = or_left (list_any (λ (t : Putting). same x (name_of_put t)) (puts_in q.ops q.guids)) (list_any (is_new_share_of q.seen x) (working q)) (any_put (puts_in q.ops q.guids) x new.put new.at) in
+      let put : is_put q x ≡ true = or_left (list_any (λ (t : NamedOp). same x t.name) (puts_in q.ops)) (list_any (is_new_share_of q.seen x) (working q)) (any_put (puts_in q.ops) x new.put new.at) in
       record {
         row = after_leaving q w;
         at = after_is true (Some w) None x put is new.absent;
@@ -203,18 +200,13 @@ module _ (q : Request) (pasts : List Past) (fine : IsFine q pasts) where
   pub reached : (x : List ℕ) (w : Record) → record_at (working q) x ≡ Some w → Reached x w
   reached x w is = reached_by (record_at q.seen x) x w refl is
 
-  -- ---- the two working views
+  -- ---- the two working views are the same
 
-  core_at : (o p : Option Record) (w : Record) → option_map core o ≡ option_map core p → p ≡ Some w → (r : Record) × (o ≡ Some r) × (core r ≡ core w)
-  core_at None p w e is = absurd (both_ways false refl (ap (λ (c : Option Core). option_map_or (λ _. true) c false) (e ∙ ap (option_map core) is)))
-  core_at (Some r) p w e is = (r, refl, same_Some (core r) (core w) (e ∙ ap (option_map core) is))
-
-  -- what the judgement has in its working view the effect has too
   pub judged-working : (x : List ℕ) (w : Record) → record_at (ground q pasts).working x ≡ Some w → (r : Record) × (record_at (working q) x ≡ Some r) × (core r ≡ core w)
-  judged-working x w is = core_at (record_at (working q) x) (record_at (ground q pasts).working x) w (same-working q.caller.scope q.seen q.ops q.guids x) is
+  judged-working x w is = (w, is, refl)
 
   pub working-judged : (x : List ℕ) (w : Record) → record_at (working q) x ≡ Some w → (r : Record) × (record_at (ground q pasts).working x ≡ Some r) × (core r ≡ core w)
-  working-judged x w is = core_at (record_at (ground q pasts).working x) (record_at (working q) x) w (sym (same-working q.caller.scope q.seen q.ops q.guids x)) is
+  working-judged x w is = (w, is, refl)
 
   -- ---- the zone before
 

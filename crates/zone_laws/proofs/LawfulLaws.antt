@@ -6,7 +6,6 @@ use Rattle.std.proofs.lemmas.Bool.{both_ways, and_parts, and_from, false_from_ne
 use Rattle.std.proofs.lemmas.Option.{same_Some}
 use Rattle.share_records.specs.declared.share.Share.{Share as ShareOf}
 use Rattle.record_model.specs.declared.records.Record.{Record}
-use Rattle.zone_model.specs.declared.operations.Op.{Op}
 use Rattle.zone_model.specs.declared.operations.Past.{Past}
 use Rattle.zone_model.specs.declared.commits.Write.{Write}
 use Rattle.zone_model.specs.declared.commits.Act.TheVariants.{Writes}
@@ -20,13 +19,13 @@ use Rattle.zone_model.specs.Ancestry.{IsAncestor, is_ancestor}
 use Rattle.name_rules.specs.Parents.{here, up}
 use Rattle.zone_model.specs.Views.{is_empty}
 use Rattle.zone_model.specs.Past.{name_history}
-use Rattle.zone_model.specs.Requests.{roots_in, Caller, Putting, is_deletion, first_guid, guids_left, root_given}
+use Rattle.zone_model.specs.Requests.{roots_in, Caller, NamedOp, is_deletion, root_given}
 use Rattle.zone_model.specs.Working.{is_share_of, loses_mark}
 use Rattle.zone_model.specs.Judging.{faults_of, has_fault}
 use Rattle.zone_model.specs.Grounds.{grounds_of}
 use Rattle.zone_model.specs.Effect.{Request, working, is_put, after_leaving, after_puts, removed, is_unmarked, is_written, write_of, writes, effect}
-use Rattle.zone_model.specs.Modifying.{request_at, judgement_at, effect_at, modified_as_one, modified_apart}
-use Rattle.zone_model.specs.Lawful.{is_plain, is_marked_with, has_good_parent, has_good_root, has_good_mark, is_within_limits, fits_in, are_well_formed, has_next_tag, has_its_place, is_lawful_write, is_lawful, are_lawful}
+use Rattle.zone_model.specs.Modifying.{request_at, judgement_at, effect_at, modified_as_one, modified_apart, commits_of_request}
+use Rattle.zone_laws.specs.LawfulTests.{is_plain, is_marked_with, has_good_parent, has_good_root, has_good_mark, is_within_limits, fits_in, are_well_formed, has_next_tag, has_its_place, is_lawful_write, is_lawful, are_lawful}
 use Rattle.zone_laws.specs.Laws.{EffectsAreLawful}
 use Rattle.zone_laws.proofs.NameLaws.{key-refl}
 use Rattle.name_rules.proofs.NameLemmas.{same-true, same-refl}
@@ -35,7 +34,7 @@ use Rattle.zone_laws.proofs.AncestryLaws.{is_ancestor_gives}
 use Rattle.zone_laws.proofs.LogLaws.{zone-snoc}
 use Rattle.zone_laws.proofs.OrderLaws.{ascending-zone, stays_in_order, ascending-act}
 use Rattle.zone_laws.proofs.RecordLaws.{none-some, found-name, all-found}
-use Rattle.zone_laws.proofs.EffectLaws.{effects_in_order, write_by}
+use Rattle.zone_laws.proofs.EffectLaws.{tags_next, write_by}
 use Rattle.zone_laws.proofs.AfterLaws.{found-settled, found-nothing, unwritten, settle, settle-name, settle-parent, settle-body, settle-fields, settle-share}
 use Rattle.zone_laws.proofs.FormedLaws.{well-formed, view-part}
 use Rattle.zone_laws.proofs.JudgeLaws.{none-refused, past-taken, there-found}
@@ -46,6 +45,7 @@ use Rattle.zone_laws.proofs.HoldLaws.{parent-stays}
 use Rattle.zone_laws.proofs.MarkLaws.{none_name, any-from, some-same}
 use Rattle.zone_laws.proofs.RootLaws.{new_share_of, mark_is, put_rows, unmarked, new_mark, row_seen, row_new, leaving-share, root-stays, root-marked, root-there, share-parent}
 use Rattle.zone_laws.proofs.SizeLaws.{within-same, within-after}
+use Rattle.zone_laws.proofs.TestLaws.{in_turn_so, in_turn_back}
 
 -- ---- tests of writes
 
@@ -239,10 +239,10 @@ module _ (q : Request) (pasts : List Past) (fine : IsFine q pasts) where
 
 -- ---- the law
 
-module _ (caller : Caller) (moment : ℕ) (log : List Commit) (ops : List Op) (guids : List (List ℕ))
+module _ (caller : Caller) (moment : ℕ) (log : List Commit) (ops : List NamedOp)
     (lawful : are_lawful [] log ≡ true) (there : (zone_at log caller.key).there ≡ true) (roots : has_twice (roots_in ops) ≡ false) where
   abbrev request : Request
-  request = request_at caller moment log ops guids
+  request = request_at caller moment log ops
 
   abbrev pasts_of : List Past
   pasts_of = name_history log caller.key ops
@@ -268,14 +268,14 @@ module _ (caller : Caller) (moment : ℕ) (log : List Commit) (ops : List Op) (g
   is_lawful_commit : IsFine request pasts_of → is_lawful log commit ≡ true
   is_lawful_commit fine = and_from (zone_at log caller.key).there _ there
       (and_from (list_all (is_lawful_write request.rows request.puts) (writes request (removed request))) _
-      (all_both (has_next_tag request.puts) (has_its_place request.rows) (writes request (removed request)) (effects_in_order.tagged request) (places-after request pasts_of fine))
+      (all_both (has_next_tag request.puts) (has_its_place request.rows) (writes request (removed request)) (tags_next request (removed request) (after_puts request)) (places-after request pasts_of fine))
       (formed-after request pasts_of fine))
 
   effect_by : (b : Bool) → has_fault (judgement_at caller moment log ops) ≡ b → are_lawful log (if b then [] else effect request) ≡ true
   effect_by true judged = refl
   effect_by false judged = commit_by (is_empty (writes request (removed request))) (is_lawful_commit (is_fine judged))
 
-  pub lawful-effect : are_lawful log (effect_at caller moment log ops guids) ≡ true
+  pub lawful-effect : are_lawful log (effect_at caller moment log ops) ≡ true
   lawful-effect = effect_by (has_fault (judgement_at caller moment log ops)) refl
 
   there_step : (b : Bool) → (zone_at (log ++ (if b then [] else commit ∷ [])) caller.key).there ≡ true
@@ -287,7 +287,7 @@ module _ (caller : Caller) (moment : ℕ) (log : List Commit) (ops : List Op) (g
   there_by false = there_step (is_empty (writes request (removed request)))
 
   -- the zone is still there
-  pub there-after : (zone_at (log ++ effect_at caller moment log ops guids) caller.key).there ≡ true
+  pub there-after : (zone_at (log ++ effect_at caller moment log ops) caller.key).there ≡ true
   there-after = there_by (has_fault (judgement_at caller moment log ops))
 
 -- ---- operations one after another
@@ -302,31 +302,32 @@ single_root : (o : Option (List ℕ)) → has_twice (cons_option o []) ≡ false
 single_root None = refl
 single_root (Some x) = refl
 
-one_root_by : (d : Bool) (op : Op) (guids : List (List ℕ)) → has_twice (filter_map (λ (p : Putting). root_given p.draft) (if d then [] else record { kind = op.kind; draft = op.draft; guid = first_guid guids } ∷ [])) ≡ false
-one_root_by true op guids = refl
-one_root_by false op guids = single_root (root_given op.draft)
+one_root_by : (d : Bool) (op : NamedOp) → has_twice (filter_map (λ (p : NamedOp). root_given p.draft) (if not d then op ∷ [] else [])) ≡ false
+one_root_by true op = refl
+one_root_by false op = single_root (root_given op.draft)
 
 -- one operation gives no root twice
-pub one_root : (op : Op) → has_twice (roots_in (op ∷ [])) ≡ false
-one_root op = one_root_by (is_deletion op.kind) op []
+pub one_root : (op : NamedOp) → has_twice (roots_in (op ∷ [])) ≡ false
+one_root op = one_root_by (is_deletion op.kind) op
 
-apart_lawful : (caller : Caller) (moment : ℕ) (ops : List Op) (log : List Commit) (guids : List (List ℕ)) → are_lawful [] log ≡ true → (zone_at log caller.key).there ≡ true
-    → are_lawful log (modified_apart caller moment log ops guids).commits ≡ true
-apart_lawful caller moment [] log guids lawful there = refl
-apart_lawful caller moment (op ∷ ops) log guids lawful there =
-    let made = effect_at caller moment log (op ∷ []) guids in
-    let one = lawful-effect caller moment log (op ∷ []) guids lawful there (one_root op) in
-    lawful-append log made (modified_apart caller moment (log ++ made) ops (guids_left op guids)).commits one
-    (apart_lawful caller moment ops (log ++ made) (guids_left op guids) (lawful-append [] log made lawful one) (there-after caller moment log (op ∷ []) guids lawful there (one_root op)))
+apart_lawful : (caller : Caller) (moment : ℕ) (ops : List NamedOp) (log : List Commit) → are_lawful [] log ≡ true → (zone_at log caller.key).there ≡ true
+    → are_lawful log (modified_apart caller moment log ops).commits ≡ true
+apart_lawful caller moment [] log lawful there = refl
+apart_lawful caller moment (op ∷ ops) log lawful there =
+    let made = effect_at caller moment log (op ∷ []) in
+    let one = lawful-effect caller moment log (op ∷ []) lawful there (one_root op) in
+    lawful-append log made (modified_apart caller moment (log ++ made) ops).commits one
+    (apart_lawful caller moment ops (log ++ made) (lawful-append [] log made lawful one) (there-after caller moment log (op ∷ []) lawful there (one_root op)))
 
-request_by : (b : Bool) (caller : Caller) (moment : ℕ) (log : List Commit) (ops : List Op) (guids : List (List ℕ)) → are_lawful [] log ≡ true → (zone_at log caller.key).there ≡ true → has_twice (roots_in ops) ≡ false
-    → are_lawful log (if b then modified_as_one caller moment log ops guids else modified_apart caller moment log ops guids).commits ≡ true
-request_by true caller moment log ops guids lawful there roots = lawful-effect caller moment log ops guids lawful there roots
-request_by false caller moment log ops guids lawful there roots = apart_lawful caller moment ops log guids lawful there
+pub request_by : (b : Bool) (caller : Caller) (moment : ℕ) (log : List Commit) (ops : List NamedOp) → are_lawful [] log ≡ true → (zone_at log caller.key).there ≡ true → has_twice (roots_in ops) ≡ false
+    → are_lawful log (if b then modified_as_one caller moment log ops else modified_apart caller moment log ops).commits ≡ true
+request_by true caller moment log ops lawful there roots = lawful-effect caller moment log ops lawful there roots
+request_by false caller moment log ops lawful there roots = apart_lawful caller moment ops log lawful there
 
 -- what a request commits may follow
 pub effects_lawful : EffectsAreLawful
 effects_lawful = record {
-  as_one = lawful-effect;
-  requests = λ caller moment log atomic ops guids lawful there roots. request_by (atomic && not (is_default caller.key)) caller moment log ops guids lawful there roots;
+  as_one = λ caller moment log ops lawful there roots. in_turn_so log (effect_at caller moment log ops) (lawful-effect caller moment log ops (in_turn_back [] log lawful) there roots);
+  requests = λ caller moment log atomic ops lawful there roots. in_turn_so log (commits_of_request caller moment log atomic ops)
+      (request_by (atomic && not (is_default caller.key)) caller moment log ops (in_turn_back [] log lawful) there roots);
 }

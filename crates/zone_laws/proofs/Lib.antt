@@ -4,6 +4,10 @@ pub mod NameLaws
 pub mod SameLaws
 -- ancestry and coverage over records
 pub mod AncestryLaws
+-- the tests of what may follow decide it
+pub mod TestLaws
+-- which names may be written
+pub mod WritableLaws
 -- the removed names are the least closed set
 pub mod CascadeLaws
 -- zones, counts and views after further commits
@@ -82,3 +86,7 @@ pub mod WrittenLaws
 pub mod MadeLaws
 -- what outcomes show of deletions
 pub mod DeletionLaws
+-- operations that are done one after another
+pub mod StepsLaws
+-- operations that a request has name no record twice and give no root twice
+pub mod MeantLaws

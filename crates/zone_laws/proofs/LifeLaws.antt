@@ -18,13 +18,15 @@ use Rattle.zone_model.specs.Records.{record_at, is_there}
 use Rattle.zone_model.specs.Zones.{Zone, zone_at, after_write, after_act, puts_name, act_puts, puts_at, written_name}
 use Rattle.zone_model.specs.Subscriptions.{subscriptions_at}
 use Rattle.zone_model.specs.Views.{fronts}
-use Rattle.zone_model.specs.Lawful.{is_lawful_write, has_next_tag, is_lawful_act, is_lawful, are_lawful}
+use Rattle.zone_laws.specs.LawfulTests.{is_lawful_write, has_next_tag, is_lawful_act, is_lawful, are_lawful}
 use Rattle.zone_laws.specs.Lives.{lives_through, LivesAreKept}
 use Rattle.zone_laws.proofs.LogLaws.{zone-snoc, puts-append}
 use Rattle.zone_laws.proofs.EntryLaws.{Grown, empty, one_more, grown}
 use Rattle.zone_laws.proofs.RecordLaws.{none-some, found-after, left_by}
 use Rattle.zone_laws.proofs.FormedLaws.{lawful-parts, key-true, well-formed}
 use Rattle.zone_laws.proofs.JudgeLaws.{there-found}
+use Rattle.zone_laws.proofs.SameLaws.{option-true}
+use Rattle.zone_laws.proofs.TestLaws.{together_so, in_turn_back}
 
 -- ---- what stands after writes
 
@@ -69,12 +71,6 @@ module _ (rows : List Record) (puts : List ℕ → ℕ) (x : List ℕ) (t : Reco
 
 -- ---- after an act
 
-parents_same : (p q : Option (List ℕ)) → same_option p q ≡ true → p ≡ q
-parents_same None None e = refl
-parents_same None (Some y) e = absurd (both_ways false refl e)
-parents_same (Some x) None e = absurd (both_ways false refl e)
-parents_same (Some x) (Some y) e = ap Some (same-true x y e)
-
 -- what a record that stands after a lawful act of its zone has
 pub record Stands (before : List Record) (puts : ℕ) (was_put : Bool) (x : List ℕ) (t : Record) : Type 0 where
   pub put : was_put ≡ true → t.tag ≡ suc puts
@@ -94,7 +90,7 @@ stands_after (Writes ws) log key x t lawful e = ⊎_elim
     (λ (p : WasPut (zone_at log key).rows (puts_at log key) ws x t). record {
       put = λ _. p.tag;
       kept = λ none. absurd (both_ways (list_any (puts_name x) ws) none p.put);
-      parent = λ old o. parents_same t.parent old.parent (subst (λ f. is_none_or (λ (r : Record). same_option t.parent r.parent) f ≡ true) o p.place);
+      parent = λ old o. option-true t.parent old.parent (subst (λ f. is_none_or (λ (r : Record). same_option t.parent r.parent) f ≡ true) o p.place);
     })
     (λ (k : WasKept (zone_at log key).rows ws x t). subst (λ b. Stands (zone_at log key).rows (puts_at log key x) b x t) (sym k.unput) (stands_kept (zone_at log key).rows (puts_at log key x) x t k.there))
     (put-or-kept (zone_at log key).rows (puts_at log key) x t ws (zone_at log key).rows (lawful ws refl) e)
@@ -191,8 +187,8 @@ life_kept (c ∷ more) log key x old new lawful lives was is =
 
 pub lives_kept : LivesAreKept
 lives_kept = record {
-  tag = λ log key x r lawful e. tag_grown log (grown log) lawful key x r e;
-  formed = well-formed;
-  parent = parent_kept;
-  life = life_kept;
+  tag = λ log key x r lawful e. tag_grown log (grown log) (in_turn_back [] log lawful) key x r e;
+  formed = λ log key lawful. together_so (zone_at log key).rows (well-formed log key (in_turn_back [] log lawful));
+  parent = λ log c key x old new lawful. parent_kept log c key x old new (in_turn_back [] (log ++ c ∷ []) lawful);
+  life = λ more log key x old new lawful. life_kept more log key x old new (in_turn_back [] (log ++ more) lawful);
 }

@@ -7,7 +7,6 @@ use Rattle.std.proofs.lemmas.Bool.{both_ways, and_from, or_left, or_right, or_ca
 use Rattle.name_rules.specs.Options.{is_some_and}
 use Rattle.name_rules.proofs.NameLemmas.{same-true, same-refl, kept}
 use Rattle.record_model.specs.declared.records.Record.{Record}
-use Rattle.zone_model.specs.declared.operations.Op.{Op}
 use Rattle.zone_model.specs.declared.operations.Past.{Past}
 use Rattle.zone_model.specs.declared.outcomes.OpFault.{OpFault}
 use Rattle.zone_model.specs.declared.outcomes.Outcome.TheVariants.{Put as Answered, Deleted}
@@ -18,7 +17,7 @@ use Rattle.zone_model.specs.Records.{record_at, is_there, names_in, is_share, wi
 use Rattle.zone_model.specs.Zones.{zone_at, written_name}
 use Rattle.zone_model.specs.Views.{is_empty, view_of}
 use Rattle.zone_model.specs.Past.{name_history}
-use Rattle.zone_model.specs.Requests.{Caller, Putting, is_deletion, makes_new, name_of_op, name_of_put, first_guid, puts_in, guids_left, roots_in, names_deleted}
+use Rattle.zone_model.specs.Requests.{Caller, NamedOp, is_deletion, makes_new, puts_in, roots_in, names_deleted}
 use Rattle.zone_model.specs.Putting.{new_record, written_over, records_written}
 use Rattle.zone_model.specs.Working.{is_new_share_of, is_share_of, with_puts, mark_of}
 use Rattle.zone_model.specs.Grounds.{grounds_of, is_taken_by_deletion}
@@ -27,12 +26,12 @@ use Rattle.zone_model.specs.Cascade.{is_due, reached, removed_names}
 use Rattle.zone_model.specs.Judging.{faults_of, has_fault}
 use Rattle.zone_model.specs.Effect.{Request, working, is_put, is_left, after_leaving, after_puts, removed, stamped, is_unmarked, is_written, write_of, writes, commits_with, effect}
 use Rattle.zone_model.specs.Modifying.{done, outcome_of, request_at, judgement_at, modified_as_one}
-use Rattle.zone_model.specs.Lawful.{are_lawful}
+use Rattle.zone_laws.specs.LawfulTests.{are_lawful}
 use Rattle.zone_laws.specs.Answering.{has_written, MadeWhereWritten}
 use Rattle.zone_laws.proofs.RecordLaws.{none-some, found-name}
 use Rattle.zone_laws.proofs.EffectLaws.{write_by}
 use Rattle.zone_laws.proofs.AfterLaws.{write_named}
-use Rattle.zone_laws.proofs.WorkingLaws.{put_at, put_over, found-working, blank}
+use Rattle.zone_laws.proofs.WorkingLaws.{put_at, put_over, found-working}
 use Rattle.zone_laws.proofs.CoreLaws.{share-core, changed_at, put-name}
 use Rattle.zone_laws.proofs.JudgeLaws.{there-found}
 use Rattle.zone_laws.proofs.KeptLaws.{ground, IsFine, checked, is-new, old-after}
@@ -41,6 +40,7 @@ use Rattle.zone_laws.proofs.AnswerLaws.{all-refused}
 use Rattle.zone_laws.proofs.ConflictLaws.{all_judged}
 use Rattle.zone_laws.proofs.LawfulLaws.{is_fine}
 use Rattle.zone_laws.proofs.WrittenLaws.{found_write, found_put, shown_written}
+use Rattle.zone_laws.proofs.TestLaws.{in_turn_back}
 
 found_some : (ws : List Write) (x : List ℕ) (o : Option Write) → find (λ w. same x (written_name w)) ws ≡ o → is_some o ≡ true → is_empty ws ≡ false
 found_some [] x o e some = absurd (both_ways false refl (ap is_some e ∙ some))
@@ -57,31 +57,31 @@ private_by false false e = absurd (both_ways true e refl)
 
 module _ (q : Request) (pasts : List Past) (fine : IsFine q pasts) where
   abbrev its_mark : Record → Record
-  its_mark r = record r { share = mark_of q.caller.scope q.seen q.ops (with_puts q.seen q.ops q.guids) r }
+  its_mark r = record r { share = mark_of q.caller.scope q.seen q.ops (with_puts q.seen q.ops) r }
 
   -- what is seen is in the working view
   seen_stays : (x : List ℕ) (v : Record) → record_at q.seen x ≡ Some v → record_at (working q) x ≡ None → ⊥
   seen_stays x v seen none =
-      let puts = puts_in q.ops q.guids in
+      let puts = puts_in q.ops in
       let c = changed_at q.seen puts x (put_at puts x) v refl seen in
       none-some (record_at (working q) x) (its_mark c.row) none
-      (found-working q.seen q.caller.scope q.ops q.guids x ∙ ap (λ o. option_map its_mark (put_over q.seen (put_at puts x) o)) seen ∙ ap (option_map its_mark) c.is)
+      (found-working q.seen q.caller.scope q.ops x ∙ ap (λ o. option_map its_mark (put_over q.seen (put_at puts x) o)) seen ∙ ap (option_map its_mark) c.is)
 
-  put_stays_by : (o : Option Record) (x : List ℕ) (p : Putting) → record_at q.seen x ≡ o → put_at (puts_in q.ops q.guids) x ≡ Some p → record_at (working q) x ≡ None → ⊥
+  put_stays_by : (o : Option Record) (x : List ℕ) (p : NamedOp) → record_at q.seen x ≡ o → put_at (puts_in q.ops) x ≡ Some p → record_at (working q) x ≡ None → ⊥
   put_stays_by (Some v) x p seen at none = seen_stays x v seen none
   put_stays_by None x p unseen at none =
       let g = ground q pasts in
-      let name : x ≡ name_of_put p = same-true x (name_of_put p) (put-name (puts_in q.ops q.guids) x p at) in
+      let name : x ≡ p.name = same-true x p.name (put-name (puts_in q.ops) x p at) in
       let makes : makes_new p.kind ≡ true = true_from_ne_false (makes_new p.kind) (λ m.
-      both_ways (is_missing g (blank p)) (checked q pasts fine x p at).found (and_from (not (makes_new p.kind)) _ (ap not m) (is-new q pasts fine x p at unseen))) in
-      let written : written_over p (record_at q.seen (name_of_put p)) ≡ Some (new_record p) =
+      both_ways (is_missing g p) (checked q pasts fine x p at).found (and_from (not (makes_new p.kind)) _ (ap not m) (is-new q pasts fine x p at unseen))) in
+      let written : written_over p (record_at q.seen p.name) ≡ Some (new_record p) =
       ap (λ y. written_over p (record_at q.seen y)) (sym name) ∙ ap (written_over p) unseen ∙ ap (λ b. if b then Some (new_record p) else None) makes in
       none-some (record_at (working q) x) (its_mark (new_record p)) none
-      (found-working q.seen q.caller.scope q.ops q.guids x ∙ ap (λ i. option_map its_mark (put_over q.seen i (record_at q.seen x))) at
+      (found-working q.seen q.caller.scope q.ops x ∙ ap (λ i. option_map its_mark (put_over q.seen i (record_at q.seen x))) at
       ∙ ap (λ o. option_map its_mark (option_map_or Some o (record_at q.seen x))) written)
 
   -- and so is what is put
-  pub put_stays : (x : List ℕ) (p : Putting) → put_at (puts_in q.ops q.guids) x ≡ Some p → record_at (working q) x ≡ None → ⊥
+  pub put_stays : (x : List ℕ) (p : NamedOp) → put_at (puts_in q.ops) x ≡ Some p → record_at (working q) x ≡ None → ⊥
   put_stays x p at none = put_stays_by (record_at q.seen x) x p refl at none
 
   some_write : (goes written : Bool) (a : Record) → (goes || written) ≡ true → is_some (write_by q (removed q) goes written a) ≡ true
@@ -117,7 +117,7 @@ module _ (q : Request) (pasts : List Past) (fine : IsFine q pasts) where
       let v = seen_there q.seen x (record_at q.seen x) refl there in
       deleted_by (is_taken_by_deletion q.caller q.seen x) x v.0 v.1 deleted refl
 
-  put_written : (x : List ℕ) (p : Putting) (r : Record) → put_at (puts_in q.ops q.guids) x ≡ Some p → record_at (working q) x ≡ Some r → is_empty (writes q (removed q)) ≡ false
+  put_written : (x : List ℕ) (p : NamedOp) (r : Record) → put_at (puts_in q.ops) x ≡ Some p → record_at (working q) x ≡ Some r → is_empty (writes q (removed q)) ≡ false
   put_written x p r at is =
       let w = shown_written q pasts fine x p r at is in
       found_some (writes q (removed q)) (stamped q r).name (Some w.write) w.found refl
@@ -125,27 +125,27 @@ module _ (q : Request) (pasts : List Past) (fine : IsFine q pasts) where
   -- ---- operations that write nothing
 
   -- a deletion of what is not seen
-  pub record IsQuiet (op : Op) : Type 0 where
+  pub record IsQuiet (op : NamedOp) : Type 0 where
     pub deletes : is_deletion op.kind ≡ true
-    pub unseen : is_there q.seen (name_of_op op) ≡ false
+    pub unseen : is_there q.seen op.name ≡ false
 
-  no_puts_by : (d : Bool) (op : Op) (ops : List Op) (gs : List (List ℕ)) → d ≡ true → puts_in ops gs ≡ [] → (if d then puts_in ops gs else record { kind = op.kind; draft = op.draft; guid = first_guid gs } ∷ puts_in ops (guids_left op gs)) ≡ []
-  no_puts_by true op ops gs e rest = rest
-  no_puts_by false op ops gs e rest = absurd (both_ways false refl e)
+  no_puts_by : (d : Bool) (op : NamedOp) (ops : List NamedOp) → d ≡ true → puts_in ops ≡ [] → (if not d then op ∷ puts_in ops else puts_in ops) ≡ []
+  no_puts_by true op ops e rest = rest
+  no_puts_by false op ops e rest = absurd (both_ways false refl e)
 
-  no_puts : (ops : List Op) (gs : List (List ℕ)) → AllByRecursion IsQuiet ops → puts_in ops gs ≡ []
-  no_puts [] gs all = refl
-  no_puts (op ∷ ops) gs all = no_puts_by (is_deletion op.kind) op ops gs all.0.deletes (no_puts ops gs all.1)
+  no_puts : (ops : List NamedOp) → AllByRecursion IsQuiet ops → puts_in ops ≡ []
+  no_puts [] all = refl
+  no_puts (op ∷ ops) all = no_puts_by (is_deletion op.kind) op ops all.0.deletes (no_puts ops all.1)
 
-  unseen_by : (d : Bool) (op : Op) (ops : List Op) (x : List ℕ) → IsQuiet op → (is_in (names_deleted ops) x ≡ true → is_there q.seen x ≡ false)
-      → is_in (map name_of_op (cond d (op ∷ filter (λ (o : Op). is_deletion o.kind) ops) (filter (λ (o : Op). is_deletion o.kind) ops))) x ≡ true → is_there q.seen x ≡ false
+  unseen_by : (d : Bool) (op : NamedOp) (ops : List NamedOp) (x : List ℕ) → IsQuiet op → (is_in (names_deleted ops) x ≡ true → is_there q.seen x ≡ false)
+      → is_in (map (λ (o : NamedOp). o.name) (cond d (op ∷ filter (λ (o : NamedOp). is_deletion o.kind) ops) (filter (λ (o : NamedOp). is_deletion o.kind) ops))) x ≡ true → is_there q.seen x ≡ false
   unseen_by true op ops x quiet rest e = ⊎_elim
-      (λ (h : same x (name_of_op op) ≡ true). subst (λ y. is_there q.seen y ≡ false) (sym (same-true x (name_of_op op) h)) quiet.unseen)
+      (λ (h : same x op.name ≡ true). subst (λ y. is_there q.seen y ≡ false) (sym (same-true x op.name h)) quiet.unseen)
       (λ (h : is_in (names_deleted ops) x ≡ true). rest h)
-      (or_cases (same x (name_of_op op)) (is_in (names_deleted ops) x) e)
+      (or_cases (same x op.name) (is_in (names_deleted ops) x) e)
   unseen_by false op ops x quiet rest e = rest e
 
-  unseen_all : (ops : List Op) (x : List ℕ) → AllByRecursion IsQuiet ops → is_in (names_deleted ops) x ≡ true → is_there q.seen x ≡ false
+  unseen_all : (ops : List NamedOp) (x : List ℕ) → AllByRecursion IsQuiet ops → is_in (names_deleted ops) x ≡ true → is_there q.seen x ≡ false
   unseen_all [] x all e = absurd (both_ways false refl e)
   unseen_all (op ∷ ops) x all e = unseen_by (is_deletion op.kind) op ops x all.0 (unseen_all ops x all.1) e
 
@@ -173,8 +173,8 @@ module _ (q : Request) (pasts : List Past) (fine : IsFine q pasts) where
   reached_none rows (suc n) = ap (λ names. names_in (filter (is_due rows [] names) rows)) (reached_none rows n) ∙ ap names_in (none_passes (is_due rows [] []) rows (λ r. refl))
 
   module _ (quiet : AllByRecursion IsQuiet q.ops) where
-    no_puts_here : puts_in q.ops q.guids ≡ []
-    no_puts_here = no_puts q.ops q.guids quiet
+    no_puts_here : puts_in q.ops ≡ []
+    no_puts_here = no_puts q.ops quiet
 
     working_is : working q ≡ map its_mark q.seen
     working_is = ap (λ ps. map its_mark (fold with_record q.seen (records_written q.seen ps))) no_puts_here
@@ -198,7 +198,7 @@ module _ (q : Request) (pasts : List Past) (fine : IsFine q pasts) where
         (or_cases (same t.name r.name) _ e)
 
     unput : (x : List ℕ) → is_put q x ≡ false
-    unput x = ap (λ ps. list_any (λ (p : Putting). same x (name_of_put p)) ps || list_any (is_new_share_of q.seen x) (working q)) no_puts_here
+    unput x = ap (λ ps. list_any (λ (p : NamedOp). same x p.name) ps || list_any (is_new_share_of q.seen x) (working q)) no_puts_here
         ∙ ap (list_any (is_new_share_of q.seen x)) working_is ∙ old_shares x q.seen (among_seen q.seen)
 
     after_is_map : after_puts q ≡ map (after_leaving q) q.rows
@@ -243,22 +243,22 @@ one_commit : (q : Request) (ws : List Write) → is_empty (commits_with q ws) �
 one_commit q [] = refl
 one_commit q (w ∷ ws) = refl
 
-refused_none : (q : Request) (ops : List Op) (faults : List (Option OpFault)) → list_all is_some faults ≡ true → list_any (has_written q.seen) (map (outcome_of q) (zip ops faults)) ≡ false
+refused_none : (q : Request) (ops : List NamedOp) (faults : List (Option OpFault)) → list_all is_some faults ≡ true → list_any (has_written q.seen) (map (outcome_of q) (zip ops faults)) ≡ false
 refused_none q [] faults all = refl
 refused_none q (op ∷ ops) [] all = refl
 refused_none q (op ∷ ops) (None ∷ faults) all = absurd (both_ways false refl all)
 refused_none q (op ∷ ops) (Some fault ∷ faults) all = refused_none q ops faults all
 
-pub all_through : (q : Request) (ops : List Op) (faults : List (Option OpFault)) → length faults ≡ length ops → has_fault faults ≡ false → map (outcome_of q) (zip ops faults) ≡ map (done q) ops
+pub all_through : (q : Request) (ops : List NamedOp) (faults : List (Option OpFault)) → length faults ≡ length ops → has_fault faults ≡ false → map (outcome_of q) (zip ops faults) ≡ map (done q) ops
 all_through q [] faults len none = refl
 all_through q (op ∷ ops) [] len none = absurd (omega (arith, len))
 all_through q (op ∷ ops) (None ∷ faults) len none = ap (λ os. done q op ∷ os) (all_through q ops faults (omega (arith, len)) none)
 all_through q (op ∷ ops) (Some fault ∷ faults) len none = absurd (both_ways true none refl)
 
-module _ (caller : Caller) (moment : ℕ) (log : List Commit) (ops : List Op) (guids : List (List ℕ))
+module _ (caller : Caller) (moment : ℕ) (log : List Commit) (ops : List NamedOp)
     (lawful : are_lawful [] log ≡ true) (there : (zone_at log caller.key).there ≡ true) (roots : has_twice (roots_in ops) ≡ false) where
   abbrev its_request : Request
-  its_request = request_at caller moment log ops guids
+  its_request = request_at caller moment log ops
 
   abbrev its_pasts : List Past
   its_pasts = name_history log caller.key ops
@@ -266,87 +266,87 @@ module _ (caller : Caller) (moment : ℕ) (log : List Commit) (ops : List Op) (g
   abbrev its_writes : List Write
   its_writes = writes its_request (removed its_request)
 
-  abbrev offers : List Putting → List ℕ → Bool
-  offers ps x = list_any (λ (t : Putting). same x (name_of_put t)) ps
+  abbrev offers : List NamedOp → List ℕ → Bool
+  offers ps x = list_any (λ (t : NamedOp). same x t.name) ps
 
   module _ (judged : has_fault (judgement_at caller moment log ops) ≡ false) where
     fine : IsFine its_request its_pasts
-    fine = is_fine caller moment log ops guids lawful there roots judged
+    fine = is_fine caller moment log ops lawful there roots judged
 
     -- what an operation that is done tells
 
-    put_told : (op : Op) (o : Option Record) → record_at (working its_request) (name_of_op op) ≡ o → offers (puts_in ops guids) (name_of_op op) ≡ true
-        → has_written its_request.seen (option_map_or (λ r. Answered (stamped its_request r)) o (Deleted (name_of_op op))) ≡ false → ⊥
+    put_told : (op : NamedOp) (o : Option Record) → record_at (working its_request) op.name ≡ o → offers (puts_in ops) op.name ≡ true
+        → has_written its_request.seen (option_map_or (λ r. Answered (stamped its_request r)) o (Deleted op.name)) ≡ false → ⊥
     put_told op (Some r) is offered e = both_ways true e refl
-    put_told op None is offered e = let p = found_put (puts_in ops guids) (name_of_op op) offered in put_stays its_request its_pasts fine (name_of_op op) p.0 p.1 is
+    put_told op None is offered e = let p = found_put (puts_in ops) op.name offered in put_stays its_request its_pasts fine op.name p.0 p.1 is
 
-    quiet_by : (d : Bool) (op : Op) → is_deletion op.kind ≡ d → (d ≡ false → offers (puts_in ops guids) (name_of_op op) ≡ true)
-        → has_written its_request.seen (option_map_or (λ r. Answered (stamped its_request r)) (if d then None else (record_at (working its_request) (name_of_op op))) (Deleted (name_of_op op))) ≡ false
+    quiet_by : (d : Bool) (op : NamedOp) → is_deletion op.kind ≡ d → (d ≡ false → offers (puts_in ops) op.name ≡ true)
+        → has_written its_request.seen (option_map_or (λ r. Answered (stamped its_request r)) (if d then None else (record_at (working its_request) op.name)) (Deleted op.name)) ≡ false
         → IsQuiet its_request its_pasts fine op
     quiet_by true op is offered e = record { deletes = is; unseen = e }
-    quiet_by false op is offered e = absurd (put_told op (record_at (working its_request) (name_of_op op)) refl (offered refl) e)
+    quiet_by false op is offered e = absurd (put_told op (record_at (working its_request) op.name) refl (offered refl) e)
 
-    quiet_step : (d : Bool) (op : Op) (some : List Op) (gs : List (List ℕ)) → is_deletion op.kind ≡ d
-        → ((x : List ℕ) → offers (if d then puts_in some gs else record { kind = op.kind; draft = op.draft; guid = first_guid gs } ∷ puts_in some (guids_left op gs)) x ≡ true → offers (puts_in ops guids) x ≡ true)
-        → ((left : List (List ℕ)) → ((x : List ℕ) → offers (puts_in some left) x ≡ true → offers (puts_in ops guids) x ≡ true) → AllByRecursion (IsQuiet its_request its_pasts fine) some)
+    quiet_step : (d : Bool) (op : NamedOp) (some : List NamedOp) → is_deletion op.kind ≡ d
+        → ((x : List ℕ) → offers (if not d then op ∷ puts_in some else puts_in some) x ≡ true → offers (puts_in ops) x ≡ true)
+        → (((x : List ℕ) → offers (puts_in some) x ≡ true → offers (puts_in ops) x ≡ true) → AllByRecursion (IsQuiet its_request its_pasts fine) some)
         → has_written its_request.seen (done its_request op) ≡ false → AllByRecursion (IsQuiet its_request its_pasts fine) (op ∷ some)
-    quiet_step true op some gs is offered rest e =
-        (quiet_by true op is (λ f. absurd (both_ways true f refl)) (ap (λ b. has_written its_request.seen (option_map_or (λ r. Answered (stamped its_request r)) (if b then None else (record_at (working its_request) (name_of_op op))) (Deleted (name_of_op op)))) (sym is) ∙ e), rest gs offered)
-    quiet_step false op some gs is offered rest e = (
-      quiet_by false op is (λ f. offered (name_of_op op) (or_left (same (name_of_op op) (name_of_op op)) _ (same-refl (name_of_op op))))
-          (ap (λ b. has_written its_request.seen (option_map_or (λ r. Answered (stamped its_request r)) (if b then None else (record_at (working its_request) (name_of_op op))) (Deleted (name_of_op op)))) (sym is) ∙ e),
-      rest (guids_left op gs) (λ x i. offered x (or_right (same x (name_of_op op)) _ i)),
+    quiet_step true op some is offered rest e =
+        (quiet_by true op is (λ f. absurd (both_ways true f refl)) (ap (λ b. has_written its_request.seen (option_map_or (λ r. Answered (stamped its_request r)) (if b then None else (record_at (working its_request) op.name)) (Deleted op.name))) (sym is) ∙ e), rest offered)
+    quiet_step false op some is offered rest e = (
+      quiet_by false op is (λ f. offered op.name (or_left (same op.name op.name) _ (same-refl op.name)))
+          (ap (λ b. has_written its_request.seen (option_map_or (λ r. Answered (stamped its_request r)) (if b then None else (record_at (working its_request) op.name)) (Deleted op.name))) (sym is) ∙ e),
+      rest (λ x i. offered x (or_right (same x op.name) _ i)),
     )
 
-    all_quiet : (some : List Op) (gs : List (List ℕ)) → ((x : List ℕ) → offers (puts_in some gs) x ≡ true → offers (puts_in ops guids) x ≡ true)
+    all_quiet : (some : List NamedOp) → ((x : List ℕ) → offers (puts_in some) x ≡ true → offers (puts_in ops) x ≡ true)
         → list_any (has_written its_request.seen) (map (done its_request) some) ≡ false → AllByRecursion (IsQuiet its_request its_pasts fine) some
-    all_quiet [] gs offered e = tt
-    all_quiet (op ∷ some) gs offered e =
+    all_quiet [] offered e = tt
+    all_quiet (op ∷ some) offered e =
         let parts = or_parts (has_written its_request.seen (done its_request op)) _ e in
-        quiet_step (is_deletion op.kind) op some gs refl offered (λ left within. all_quiet some left within parts.1) parts.0
+        quiet_step (is_deletion op.kind) op some refl offered (λ within. all_quiet some within parts.1) parts.0
 
     -- what tells of something written
 
-    wrote_by : (d : Bool) (op : Op) (o : Option Record) → record_at (working its_request) (name_of_op op) ≡ o → (d ≡ false → offers (puts_in ops guids) (name_of_op op) ≡ true)
-        → (d ≡ true → is_in (names_deleted ops) (name_of_op op) ≡ true)
-        → has_written its_request.seen (option_map_or (λ r. Answered (stamped its_request r)) (if d then None else o) (Deleted (name_of_op op))) ≡ true → is_empty its_writes ≡ false
-    wrote_by true op o is offered deleted e = deleted_written its_request its_pasts fine (name_of_op op) (deleted refl) e
-    wrote_by false op (Some r) is offered deleted e = let p = found_put (puts_in ops guids) (name_of_op op) (offered refl) in put_written its_request its_pasts fine (name_of_op op) p.0 r p.1 is
-    wrote_by false op None is offered deleted e = let p = found_put (puts_in ops guids) (name_of_op op) (offered refl) in absurd (put_stays its_request its_pasts fine (name_of_op op) p.0 p.1 is)
+    wrote_by : (d : Bool) (op : NamedOp) (o : Option Record) → record_at (working its_request) op.name ≡ o → (d ≡ false → offers (puts_in ops) op.name ≡ true)
+        → (d ≡ true → is_in (names_deleted ops) op.name ≡ true)
+        → has_written its_request.seen (option_map_or (λ r. Answered (stamped its_request r)) (if d then None else o) (Deleted op.name)) ≡ true → is_empty its_writes ≡ false
+    wrote_by true op o is offered deleted e = deleted_written its_request its_pasts fine op.name (deleted refl) e
+    wrote_by false op (Some r) is offered deleted e = let p = found_put (puts_in ops) op.name (offered refl) in put_written its_request its_pasts fine op.name p.0 r p.1 is
+    wrote_by false op None is offered deleted e = let p = found_put (puts_in ops) op.name (offered refl) in absurd (put_stays its_request its_pasts fine op.name p.0 p.1 is)
 
-    abbrev deletes : List Op → List ℕ → Bool
+    abbrev deletes : List NamedOp → List ℕ → Bool
     deletes some x = is_in (names_deleted some) x
 
-    wrote_step : (d : Bool) (op : Op) (some : List Op) (gs : List (List ℕ)) → is_deletion op.kind ≡ d
-        → ((x : List ℕ) → offers (if d then puts_in some gs else record { kind = op.kind; draft = op.draft; guid = first_guid gs } ∷ puts_in some (guids_left op gs)) x ≡ true → offers (puts_in ops guids) x ≡ true)
-        → ((x : List ℕ) → is_in (map name_of_op (cond d (op ∷ filter (λ (o : Op). is_deletion o.kind) some) (filter (λ (o : Op). is_deletion o.kind) some))) x ≡ true → deletes ops x ≡ true)
-        → ((left : List (List ℕ)) → ((x : List ℕ) → offers (puts_in some left) x ≡ true → offers (puts_in ops guids) x ≡ true) → ((x : List ℕ) → deletes some x ≡ true → deletes ops x ≡ true)
+    wrote_step : (d : Bool) (op : NamedOp) (some : List NamedOp) → is_deletion op.kind ≡ d
+        → ((x : List ℕ) → offers (if not d then op ∷ puts_in some else puts_in some) x ≡ true → offers (puts_in ops) x ≡ true)
+        → ((x : List ℕ) → is_in (map (λ (o : NamedOp). o.name) (cond d (op ∷ filter (λ (o : NamedOp). is_deletion o.kind) some) (filter (λ (o : NamedOp). is_deletion o.kind) some))) x ≡ true → deletes ops x ≡ true)
+        → (((x : List ℕ) → offers (puts_in some) x ≡ true → offers (puts_in ops) x ≡ true) → ((x : List ℕ) → deletes some x ≡ true → deletes ops x ≡ true)
         → list_any (has_written its_request.seen) (map (done its_request) some) ≡ true → is_empty its_writes ≡ false)
         → list_any (has_written its_request.seen) (map (done its_request) (op ∷ some)) ≡ true → is_empty its_writes ≡ false
-    wrote_step true op some gs is offered deleted rest e = ⊎_elim
+    wrote_step true op some is offered deleted rest e = ⊎_elim
         (λ (h : has_written its_request.seen (done its_request op) ≡ true).
-        wrote_by true op (record_at (working its_request) (name_of_op op)) refl (λ f. absurd (both_ways true f refl)) (λ _. deleted (name_of_op op) (or_left (same (name_of_op op) (name_of_op op)) _ (same-refl (name_of_op op))))
-        (ap (λ b. has_written its_request.seen (option_map_or (λ r. Answered (stamped its_request r)) (if b then None else (record_at (working its_request) (name_of_op op))) (Deleted (name_of_op op)))) (sym is) ∙ h))
-        (λ (h : list_any (has_written its_request.seen) (map (done its_request) some) ≡ true). rest gs offered (λ x i. deleted x (or_right (same x (name_of_op op)) _ i)) h)
+        wrote_by true op (record_at (working its_request) op.name) refl (λ f. absurd (both_ways true f refl)) (λ _. deleted op.name (or_left (same op.name op.name) _ (same-refl op.name)))
+        (ap (λ b. has_written its_request.seen (option_map_or (λ r. Answered (stamped its_request r)) (if b then None else (record_at (working its_request) op.name)) (Deleted op.name))) (sym is) ∙ h))
+        (λ (h : list_any (has_written its_request.seen) (map (done its_request) some) ≡ true). rest offered (λ x i. deleted x (or_right (same x op.name) _ i)) h)
         (or_cases (has_written its_request.seen (done its_request op)) _ e)
-    wrote_step false op some gs is offered deleted rest e = ⊎_elim
+    wrote_step false op some is offered deleted rest e = ⊎_elim
         (λ (h : has_written its_request.seen (done its_request op) ≡ true).
-        wrote_by false op (record_at (working its_request) (name_of_op op)) refl (λ _. offered (name_of_op op) (or_left (same (name_of_op op) (name_of_op op)) _ (same-refl (name_of_op op)))) (λ f. absurd (both_ways false refl f))
-        (ap (λ b. has_written its_request.seen (option_map_or (λ r. Answered (stamped its_request r)) (if b then None else (record_at (working its_request) (name_of_op op))) (Deleted (name_of_op op)))) (sym is) ∙ h))
-        (λ (h : list_any (has_written its_request.seen) (map (done its_request) some) ≡ true). rest (guids_left op gs) (λ x i. offered x (or_right (same x (name_of_op op)) _ i)) deleted h)
+        wrote_by false op (record_at (working its_request) op.name) refl (λ _. offered op.name (or_left (same op.name op.name) _ (same-refl op.name))) (λ f. absurd (both_ways false refl f))
+        (ap (λ b. has_written its_request.seen (option_map_or (λ r. Answered (stamped its_request r)) (if b then None else (record_at (working its_request) op.name)) (Deleted op.name))) (sym is) ∙ h))
+        (λ (h : list_any (has_written its_request.seen) (map (done its_request) some) ≡ true). rest (λ x i. offered x (or_right (same x op.name) _ i)) deleted h)
         (or_cases (has_written its_request.seen (done its_request op)) _ e)
 
-    some_wrote : (some : List Op) (gs : List (List ℕ)) → ((x : List ℕ) → offers (puts_in some gs) x ≡ true → offers (puts_in ops guids) x ≡ true) → ((x : List ℕ) → deletes some x ≡ true → deletes ops x ≡ true)
+    some_wrote : (some : List NamedOp) → ((x : List ℕ) → offers (puts_in some) x ≡ true → offers (puts_in ops) x ≡ true) → ((x : List ℕ) → deletes some x ≡ true → deletes ops x ≡ true)
         → list_any (has_written its_request.seen) (map (done its_request) some) ≡ true → is_empty its_writes ≡ false
-    some_wrote [] gs offered deleted e = absurd (both_ways false refl e)
-    some_wrote (op ∷ some) gs offered deleted e = wrote_step (is_deletion op.kind) op some gs refl offered deleted (λ left within gone more. some_wrote some left within gone more) e
+    some_wrote [] offered deleted e = absurd (both_ways false refl e)
+    some_wrote (op ∷ some) offered deleted e = wrote_step (is_deletion op.kind) op some refl offered deleted (λ within gone more. some_wrote some within gone more) e
 
     either : (b : Bool) → list_any (has_written its_request.seen) (map (done its_request) ops) ≡ b → not (is_empty its_writes) ≡ b
-    either true e = ap not (some_wrote ops guids (λ x i. i) (λ x i. i) e)
-    either false e = ap (λ (ws : List Write). not (is_empty ws)) (nothing_written its_request its_pasts fine (all_quiet ops guids (λ x i. i) e))
+    either true e = ap not (some_wrote ops (λ x i. i) (λ x i. i) e)
+    either false e = ap (λ (ws : List Write). not (is_empty ws)) (nothing_written its_request its_pasts fine (all_quiet ops (λ x i. i) e))
 
   made_by : (b : Bool) → has_fault (judgement_at caller moment log ops) ≡ b
-      → not (is_empty (if b then [] else effect its_request)) ≡ list_any (has_written its_request.seen) (modified_as_one caller moment log ops guids).outcomes
+      → not (is_empty (if b then [] else effect its_request)) ≡ list_any (has_written its_request.seen) (modified_as_one caller moment log ops).outcomes
   made_by true judged = sym (refused_none its_request ops (judgement_at caller moment log ops)
       (all-refused (faults_of (grounds_of caller its_pasts (view_of log caller.user caller.scope caller.key).rows ops) ops) judged))
   made_by false judged =
@@ -355,4 +355,4 @@ module _ (caller : Caller) (moment : ℕ) (log : List Commit) (ops : List Op) (g
       ∙ ap (list_any (has_written its_request.seen)) (sym (all_through its_request ops (judgement_at caller moment log ops) (all_judged (view_of log caller.user caller.scope caller.key) its_pasts ops caller) judged))
 
 pub made_where_written : MadeWhereWritten
-made_where_written caller moment log ops guids lawful there roots = made_by caller moment log ops guids lawful there roots (has_fault (judgement_at caller moment log ops)) refl
+made_where_written caller moment log ops lawful there roots = made_by caller moment log ops (in_turn_back [] log lawful) there roots (has_fault (judgement_at caller moment log ops)) refl

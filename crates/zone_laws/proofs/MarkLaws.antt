@@ -12,13 +12,13 @@ use Rattle.zone_model.specs.declared.operations.Past.{Past}
 use Rattle.zone_model.specs.Names.{same, is_in, has_twice, is_default}
 use Rattle.name_rules.specs.Options.{is_some_and, is_none_or}
 use Rattle.zone_model.specs.Records.{record_at, names_in, is_there, share_of, IsAscending}
-use Rattle.zone_model.specs.Requests.{Putting, name_of_put, makes_new, puts_in, has_share_type, new_parent, root_given}
+use Rattle.zone_model.specs.Requests.{NamedOp, makes_new, puts_in, has_share_type, new_parent, root_given}
 use Rattle.zone_model.specs.PutChecks.{begins, root, parent, is_of_share, is_plain_in_working}
-use Rattle.zone_model.specs.Lawful.{is_plain, is_marked_with, has_good_parent, has_good_root}
+use Rattle.zone_laws.specs.LawfulTests.{is_plain, is_marked_with, has_good_parent, has_good_root}
 use Rattle.zone_model.specs.Effect.{Request, after_puts}
 use Rattle.name_rules.proofs.NameLemmas.{same-true, same-refl}
 use Rattle.zone_laws.proofs.RecordLaws.{none-some, found-name, found-below, later_step}
-use Rattle.zone_laws.proofs.WorkingLaws.{put_at, blank, blank-put}
+use Rattle.zone_laws.proofs.WorkingLaws.{put_at}
 use Rattle.zone_laws.proofs.CoreLaws.{Core, core, leaving-core, new-root}
 use Rattle.zone_laws.proofs.KeptLaws.{ground, IsFine, checked, is-new, New, new-in-working, old-after, Added, added-after, judged-working, fits}
 use Rattle.zone_laws.proofs.ParentLaws.{plain-found, plain_of}
@@ -73,10 +73,10 @@ none_name x e = both_ways false refl (ap (λ (o : Option (List ℕ)). option_map
 
 -- ---- roots that are given once
 
-abbrev given : Putting → Option (List ℕ)
+abbrev given : NamedOp → Option (List ℕ)
 given p = root_given p.draft
 
-has_step : (s : Bool) (o : Option (List ℕ)) (q p : Putting) (ps : List Putting) (y a : List ℕ) → given q ≡ o → given p ≡ Some a → (put_at ps y ≡ Some p → is_in (filter_map given ps) a ≡ true) → cond s (Some q) (put_at ps y) ≡ Some p
+has_step : (s : Bool) (o : Option (List ℕ)) (q p : NamedOp) (ps : List NamedOp) (y a : List ℕ) → given q ≡ o → given p ≡ Some a → (put_at ps y ≡ Some p → is_in (filter_map given ps) a ≡ true) → cond s (Some q) (put_at ps y) ≡ Some p
     → is_in (cons_option o (filter_map given ps)) a ≡ true
 has_step true None q p ps y a is root ih e = absurd (none_name a (sym is ∙ ap given (same_Some q p e) ∙ root))
 has_step true (Some b) q p ps y a is root ih e =
@@ -85,11 +85,11 @@ has_step true (Some b) q p ps y a is root ih e =
 has_step false None q p ps y a is root ih e = ih e
 has_step false (Some b) q p ps y a is root ih e = or_right (same a b) _ (ih e)
 
-roots_have : (ps : List Putting) (y a : List ℕ) (p : Putting) → given p ≡ Some a → put_at ps y ≡ Some p → is_in (filter_map given ps) a ≡ true
-roots_have [] y a p root e = absurd (both_ways false refl (ap (λ (o : Option Putting). option_map_or (λ _. true) o false) e))
-roots_have (q ∷ ps) y a p root e = has_step (same y (name_of_put q)) (given q) q p ps y a refl root (roots_have ps y a p root) e
+roots_have : (ps : List NamedOp) (y a : List ℕ) (p : NamedOp) → given p ≡ Some a → put_at ps y ≡ Some p → is_in (filter_map given ps) a ≡ true
+roots_have [] y a p root e = absurd (both_ways false refl (ap (λ (o : Option NamedOp). option_map_or (λ _. true) o false) e))
+roots_have (q ∷ ps) y a p root e = has_step (same y q.name) (given q) q p ps y a refl root (roots_have ps y a p root) e
 
-twice_rest : (o : Option (List ℕ)) (xs : List (List ℕ)) → has_twice (cons_option o xs) ≡ false → has_twice xs ≡ false
+pub twice_rest : (o : Option (List ℕ)) (xs : List (List ℕ)) → has_twice (cons_option o xs) ≡ false → has_twice xs ≡ false
 twice_rest None xs e = e
 twice_rest (Some a) xs e = by (is_in xs a) e
   where
@@ -100,16 +100,16 @@ twice_rest (Some a) xs e = by (is_in xs a) e
 twice_head : (o : Option (List ℕ)) (a : List ℕ) (xs : List (List ℕ)) → o ≡ Some a → is_in xs a ≡ true → has_twice (cons_option o xs) ≡ false → ⊥
 twice_head o a xs is i e = both_ways (has_twice (a ∷ xs)) (ap (λ t. has_twice (cons_option t xs)) (sym is) ∙ e) (ap (λ b. if b then true else has_twice xs) i)
 
-once_step : (s t : Bool) (q p r : Putting) (ps : List Putting) (x y a : List ℕ) → same x (name_of_put q) ≡ s → same y (name_of_put q) ≡ t → given p ≡ Some a → given r ≡ Some a
+once_step : (s t : Bool) (q p r : NamedOp) (ps : List NamedOp) (x y a : List ℕ) → same x q.name ≡ s → same y q.name ≡ t → given p ≡ Some a → given r ≡ Some a
     → (put_at ps x ≡ Some p → put_at ps y ≡ Some r → x ≡ y) → has_twice (cons_option (given q) (filter_map given ps)) ≡ false → cond s (Some q) (put_at ps x) ≡ Some p → cond t (Some q) (put_at ps y) ≡ Some r → x ≡ y
-once_step true true q p r ps x y a xs ys ph rh ih none e f = same-true x (name_of_put q) xs ∙ sym (same-true y (name_of_put q) ys)
+once_step true true q p r ps x y a xs ys ph rh ih none e f = same-true x q.name xs ∙ sym (same-true y q.name ys)
 once_step true false q p r ps x y a xs ys ph rh ih none e f = absurd (twice_head (given q) a (filter_map given ps) (ap given (same_Some q p e) ∙ ph) (roots_have ps y a r rh f) none)
 once_step false true q p r ps x y a xs ys ph rh ih none e f = absurd (twice_head (given q) a (filter_map given ps) (ap given (same_Some q r f) ∙ rh) (roots_have ps x a p ph e) none)
 once_step false false q p r ps x y a xs ys ph rh ih none e f = ih e f
 
-given_once : (ps : List Putting) (x y a : List ℕ) (p r : Putting) → has_twice (filter_map given ps) ≡ false → given p ≡ Some a → given r ≡ Some a → put_at ps x ≡ Some p → put_at ps y ≡ Some r → x ≡ y
-given_once [] x y a p r none ph rh e f = absurd (both_ways false refl (ap (λ (o : Option Putting). option_map_or (λ _. true) o false) e))
-given_once (q ∷ ps) x y a p r none ph rh e f = once_step (same x (name_of_put q)) (same y (name_of_put q)) q p r ps x y a refl refl ph rh
+given_once : (ps : List NamedOp) (x y a : List ℕ) (p r : NamedOp) → has_twice (filter_map given ps) ≡ false → given p ≡ Some a → given r ≡ Some a → put_at ps x ≡ Some p → put_at ps y ≡ Some r → x ≡ y
+given_once [] x y a p r none ph rh e f = absurd (both_ways false refl (ap (λ (o : Option NamedOp). option_map_or (λ _. true) o false) e))
+given_once (q ∷ ps) x y a p r none ph rh e f = once_step (same x q.name) (same y q.name) q p r ps x y a refl refl ph rh
     (λ e f. given_once ps x y a p r (twice_rest (given q) (filter_map given ps) none) ph rh e f) none e f
 
 begun_parts : (h : Bool) (o : Option (List ℕ)) (a : List ℕ) → (if h then o else None) ≡ Some a → (h ≡ true) × (o ≡ Some a)
@@ -147,7 +147,7 @@ module _ (q : Request) (pasts : List Past) (fine : IsFine q pasts) where
 
   -- a share that the request begins
   pub record NewShare (x a : List ℕ) (w : Record) : Type 0 where
-    pub given : (p : Putting) × (put_at (puts_in q.ops []) x ≡ Some p) × (root_given p.draft ≡ Some a)
+    pub given : (p : NamedOp) × (put_at (puts_in q.ops) x ≡ Some p) × (root_given p.draft ≡ Some a)
     pub plain : is_plain (ground q pasts).working a ≡ true
     pub free : (v : Record) → record_at q.seen a ≡ Some v → is_some v.share ≡ false
     pub parent : is_some w.parent ≡ false
@@ -155,18 +155,18 @@ module _ (q : Request) (pasts : List Past) (fine : IsFine q pasts) where
   pub new-share : (x a : List ℕ) (w : Record) → New q pasts fine x w → (core w).root ≡ Some a → NewShare x a w
   new-share x a w new is =
       let g = ground q pasts in
-      let p = blank new.put in
+      let p = new.put in
       let passed = checked q pasts fine x new.put new.at in
       let parts = begun_parts (has_share_type new.put.draft) (root_given new.put.draft) a (sym (new-root new.put) ∙ sym (ap (λ (t : Core). t.root) new.is) ∙ is) in
       let newness = is-new q pasts fine x new.put new.at new.unseen in
-      let starts : begins g p ≡ true = and_from (makes_new new.put.kind) _ new.makes (and_from (not (is_there q.seen (name_of_put new.put))) _ newness parts.0) in
+      let starts : begins g p ≡ true = and_from (makes_new new.put.kind) _ new.makes (and_from (not (is_there q.seen new.put.name)) _ newness parts.0) in
       let at_root : root g p ≡ Some a = ap (λ b. if b then root_given new.put.draft else None) starts ∙ parts.1 in
       let bad = subst (λ o. is_some_and (λ y. not (is_plain_in_working g p y)) o ≡ false) at_root passed.root_good in
       let of_share : is_of_share g p ≡ true = or_left (begins g p) _ starts in
       let placed = or_parts (is_default q.caller.key) (is_some (parent g p)) (ap (λ b. b && (is_default q.caller.key || is_some (parent g p))) (sym of_share) ∙ passed.placed) in
       let no_parent : is_some (new_parent new.put.draft) ≡ false = ap (λ b. is_some (if b then new_parent new.put.draft else None)) (sym newness) ∙ placed.1 in
       record {
-        given = (p, sym (blank-put q.ops q.guids x) ∙ ap (option_map blank) new.at, parts.1);
+        given = (p, new.at, parts.1);
         plain = plain_of g.working a (true_from_ne_false (is_plain_in_working g p a) (λ e. both_ways (not (is_plain_in_working g p a)) bad (ap not e)));
         free = λ v seen. ap (λ o. is_some_and (λ (r : Record). is_some r.share) o) (sym (ap (option_and_then (record_at q.seen)) at_root ∙ seen)) ∙ passed.root_free;
         parent = ap is_some (ap (λ (t : Core). t.parent) new.is) ∙ no_parent;
@@ -209,7 +209,7 @@ module _ (q : Request) (pasts : List Past) (fine : IsFine q pasts) where
       let two = added-after q pasts fine y c yt yc in
       let p = (new-share x a one.row one.new (added_root x a b one rb)).given in
       let r = (new-share y a two.row two.new (added_root y a c two rc)).given in
-      given_once (puts_in q.ops []) x y a p.0 r.0 fine.roots p.2 r.2 p.1 r.1
+      given_once (puts_in q.ops) x y a p.0 r.0 fine.roots p.2 r.2 p.1 r.1
 
   -- a root has one share after the puts
   pub share-once : (x y a : List ℕ) (b c : Record) → record_at (after_puts q) x ≡ Some b → record_at (after_puts q) y ≡ Some c → (core b).root ≡ Some a → (core c).root ≡ Some a → x ≡ y

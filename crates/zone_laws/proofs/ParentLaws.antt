@@ -12,19 +12,18 @@ use Rattle.name_rules.specs.Options.{is_some_and, is_none_or}
 use Rattle.zone_model.specs.Records.{record_at, names_in, is_share, IsAscending}
 use Rattle.zone_model.specs.Ancestry.{IsAncestor, is_ancestor, parent_at}
 use Rattle.name_rules.specs.Parents.{here, up}
-use Rattle.zone_model.specs.Requests.{name_of_put, puts_in, new_parent, names_deleted}
+use Rattle.zone_model.specs.Requests.{puts_in, new_parent, names_deleted}
 use Rattle.zone_model.specs.Grounds.{names_taken, is_taken_by_deletion}
 use Rattle.record_model.specs.RecordForms.{is_share_type}
 use Rattle.zone_model.specs.PutChecks.{parent, is_plain_in_working}
 use Rattle.zone_model.specs.Cascade.{takes_along, is_due}
-use Rattle.zone_model.specs.Lawful.{is_plain, has_good_parent}
+use Rattle.zone_laws.specs.LawfulTests.{is_plain, has_good_parent}
 use Rattle.zone_model.specs.Effect.{Request, after_puts, removed}
 use Rattle.name_rules.proofs.NameLemmas.{same-true, any-in}
 use Rattle.zone_laws.proofs.AncestryLaws.{is_ancestor_from, parent_of-record}
 use Rattle.zone_laws.proofs.CascadeLaws.{removed-rests}
 use Rattle.zone_laws.proofs.RecordLaws.{none-some, found-name}
 use Rattle.zone_laws.proofs.EffectLaws.{ascending-puts}
-use Rattle.zone_laws.proofs.WorkingLaws.{blank}
 use Rattle.zone_laws.proofs.FormedLaws.{found-some, found-among}
 use Rattle.zone_laws.proofs.JudgeLaws.{in-filter}
 use Rattle.zone_laws.proofs.CoreLaws.{Core, share-core, leaving-core, put-name}
@@ -101,13 +100,13 @@ module _ (q : Request) (pasts : List Past) (fine : IsFine q pasts) where
   pub new-parent : (x p : List ℕ) (w : Record) → New q pasts fine x w → w.parent ≡ Some p → (is_plain (ground q pasts).working p ≡ true) × (is_ancestor (ground q pasts).working x p ≡ false)
   new-parent x p w new is =
       let given : new_parent new.put.draft ≡ Some p = sym (ap (λ (t : Core). t.parent) new.is) ∙ is in
-      let looked : parent (ground q pasts) (blank new.put) ≡ Some p = ap (λ b. if b then new_parent new.put.draft else None) (is-new q pasts fine x new.put new.at new.unseen) ∙ given in
-      let good = subst (λ o. is_some_and (λ y. not (is_plain_in_working (ground q pasts) (blank new.put) y) || is_ancestor (ground q pasts).working (name_of_put new.put) y) o ≡ false) looked (checked q pasts fine x new.put new.at).parent_good in
+      let looked : parent (ground q pasts) new.put ≡ Some p = ap (λ b. if b then new_parent new.put.draft else None) (is-new q pasts fine x new.put new.at new.unseen) ∙ given in
+      let good = subst (λ o. is_some_and (λ y. not (is_plain_in_working (ground q pasts) new.put y) || is_ancestor (ground q pasts).working new.put.name y) o ≡ false) looked (checked q pasts fine x new.put new.at).parent_good in
       let g = ground q pasts in
-      let b = blank new.put in
+      let b = new.put in
       let parts = or_parts (not (is_plain_in_working g b p)) _ good in (
         plain_of g.working p (true_from_ne_false (is_plain_in_working g b p) (λ e. both_ways (not (is_plain_in_working g b p)) parts.0 (ap not e))),
-        subst (λ y. is_ancestor (ground q pasts).working y p ≡ false) (sym (same-true x (name_of_put new.put) (put-name (puts_in q.ops q.guids) x new.put new.at))) parts.1,
+        subst (λ y. is_ancestor (ground q pasts).working y p ≡ false) (sym (same-true x new.put.name (put-name (puts_in q.ops) x new.put new.at))) parts.1,
       )
 
   -- what is plain stands after the puts as no share

@@ -29,6 +29,7 @@ use Rattle.zone_laws.proofs.OrderLaws.{ascending-zone, ascending-some}
 use Rattle.zone_laws.proofs.RecordLaws.{none-some, found-name, found-below, later_step}
 use Rattle.zone_laws.proofs.FormedLaws.{found-some, found-among}
 use Rattle.zone_laws.proofs.ParentLaws.{from_parent_at, to_parent_at}
+use Rattle.zone_laws.proofs.WritableLaws.{nearest-found}
 
 -- ---- records that pass a test
 
@@ -149,11 +150,10 @@ permissions_seen = record {
   chain = λ log key u x y r t s apart at is accepts above there.
       subst (λ rows. record_at rows y ≡ Some t) (sym (participants_rows log key u apart)) (chain_seen (zone_at log key).rows u (ascending-zone log key) x r s at is accepts y t above there);
   writing = writing;
-  judging = λ log caller pasts ops x scope apart.
+  judging = λ log caller pasts ops x y scope apart near.
       let g = grounds_of caller pasts (view_of log caller.user caller.scope caller.key).rows ops in
-      tests_alike (may_write g.seen caller.user) (may_write (zone_at log caller.key).rows caller.user)
-      (λ y. ap (λ s. may_write (view_of log caller.user s caller.key).rows caller.user y) scope ∙ writing log caller.key caller.user y apart)
-      (find (is_seen g) (ancestors g.working x));
+      ap (is_some_and (may_write g.seen caller.user)) (nearest-found g y x near)
+      ∙ ap (λ s. may_write (view_of log caller.user s caller.key).rows caller.user y) scope ∙ writing log caller.key caller.user y apart;
 }
 
 -- ---- nothing else is seen

@@ -1,6 +1,6 @@
 -- Creations of records that stand alone.
 use Rattle.std.proofs.Common.{◌≡◌, ℕ, List, [], ◌∷◌, Bool, true, false, cond, not, ◌&&◌, ◌||◌, refl, sym, ap, ◌∙◌, subst, arith, Some, None, Option, map, length, append-nil}
-use Rattle.std.specs.Prelude.{drop, filter, filter_map, is_some, is_none, unwrap_or, if◌then◌else◌, option_and_then, nat_lt, fold, zip}
+use Rattle.std.specs.Prelude.{filter, filter_map, is_some, is_none, unwrap_or, if◌then◌else◌, option_and_then, nat_lt, fold, zip}
 use Rattle.std.specs.Option.{option_map_or}
 use Rattle.std.specs.List.{list_any, list_all, cons_option}
 use Rattle.std.proofs.Math.Bool.{and-false, or-false}
@@ -20,7 +20,6 @@ use Rattle.record_model.specs.RecordSizes.{size_of_record}
 use Rattle.record_model.specs.RecordForms.{is_share_type}
 use Rattle.zone_model.specs.declared.operations.OpKind.{OpKind}
 use Rattle.zone_model.specs.declared.operations.OpKind.TheVariants.{Create, Update, ForceUpdate, Replace, ForceReplace, Delete, ForceDelete}
-use Rattle.zone_model.specs.declared.operations.Op.{Op}
 use Rattle.zone_model.specs.declared.operations.Past.{Past}
 use Rattle.zone_model.specs.declared.outcomes.OpFault.{OpFault}
 use Rattle.zone_model.specs.declared.outcomes.OpFault.TheVariants.{Exists, NotFound, Conflict, BadRequest, AccessDenied, Validating}
@@ -30,13 +29,13 @@ use Rattle.zone_model.specs.declared.commits.Write.TheVariants.{Put}
 use Rattle.zone_model.specs.declared.commits.Commit.{Commit}
 use Rattle.zone_model.specs.Limits.{most_record_size}
 use Rattle.zone_model.specs.Names.{same, is_in, is_default, same_option}
-use Rattle.name_rules.specs.Options.{is_some_and, is_none_or, or_else}
+use Rattle.name_rules.specs.Options.{is_some_and, is_none_or}
 use Rattle.zone_model.specs.Records.{record_at, is_there, is_share, IsAscending, with_record}
 use Rattle.zone_model.specs.References.{references_in, validates}
 use Rattle.zone_model.specs.Zones.{zone_at, puts_at}
 use Rattle.zone_model.specs.Ancestry.{is_ancestor}
 use Rattle.zone_model.specs.Views.{view_of, owner_view, nowhere}
-use Rattle.zone_model.specs.Requests.{Caller, Putting, name_of_draft, new_parent, has_share_type, root_given, root_tag_given, parent_given, is_create, first_guid}
+use Rattle.zone_model.specs.Requests.{Caller, NamedOp, new_parent, has_share_type, root_given, root_tag_given, parent_given, is_create}
 use Rattle.zone_model.specs.Past.{name_history, is_taken, past_of}
 use Rattle.zone_model.specs.Sharing.{share_after}
 use Rattle.share_records.specs.ShareLists.{is_refused_list, first_share}
@@ -61,12 +60,12 @@ use Rattle.zone_laws.proofs.AloneLaws.{any_none, some_not, find_none, map_same, 
 -- ---- one operation alone
 
 pub one_either_way : OneIsEitherWay
-one_either_way caller moment log atomic op guids = by (atomic && not (is_default caller.key))
+one_either_way caller moment log atomic op = by (atomic && not (is_default caller.key))
   where
-    by : (b : Bool) → (if b then modified_as_one caller moment log (op ∷ []) guids else modified_apart caller moment log (op ∷ []) guids) ≡ modified_as_one caller moment log (op ∷ []) guids
+    by : (b : Bool) → (if b then modified_as_one caller moment log (op ∷ []) else modified_apart caller moment log (op ∷ [])) ≡ modified_as_one caller moment log (op ∷ [])
     by true = refl
     by false =
-        let one = modified_as_one caller moment log (op ∷ []) guids in
+        let one = modified_as_one caller moment log (op ∷ []) in
         λ i. record { outcomes = append-nil one.outcomes i; commits = append-nil one.commits i }
 
 -- ---- what a plain draft says
@@ -93,7 +92,7 @@ none_lack lacks (q ∷ qs) all =
     let rest = none_lack lacks qs parts.1 in
     λ i. (off i && lacks q) || rest i
 
-module _ (g : Grounds) (p : Putting) where
+module _ (g : Grounds) (p : NamedOp) where
   one_lacks : (o : Option Value) → is_none_or has_plain_references o ≡ true → is_some_and (lacks_target g p) o ≡ false
   one_lacks None e = refl
   one_lacks (Some v) e = none_lack (λ (q : RefTo). not (in_working g q.name)) (references_in v) e
@@ -137,18 +136,18 @@ is_plain d e =
 abbrev owner : ZoneKey → Caller
 owner key = record { user = key.owner; scope = Private; key = key }
 
-abbrev create : Draft → Op
-create d = record { kind = Create; draft = d }
+abbrev create : List ℕ → List ℕ → Draft → NamedOp
+create name guid d = record { kind = Create; draft = d; name = name; guid = guid }
 
 first_passes : (b : Bool) (fault : OpFault) (cs : List Check) → b ≡ true → first_fault ((b, fault) ∷ cs) ≡ Some fault
 first_passes b fault cs is = ap (λ c. if c then Some fault else first_fault cs) is
 
-module _ (key : ZoneKey) (pasts : List Past) (rows : List Record) (d : Draft) (plain : IsPlain d) where
+module _ (key : ZoneKey) (pasts : List Past) (rows : List Record) (name guid : List ℕ) (d : Draft) (plain : IsPlain d) where
   abbrev its_grounds : Grounds
-  its_grounds = grounds_of (owner key) pasts rows (create d ∷ [])
+  its_grounds = grounds_of (owner key) pasts rows (create name guid d ∷ [])
 
-  abbrev its_put : Putting
-  its_put = record { kind = Create; draft = d; guid = [] }
+  abbrev its_put : NamedOp
+  its_put = create name guid d
 
   abbrev later_checks : List Check
   later_checks =
@@ -159,14 +158,14 @@ module _ (key : ZoneKey) (pasts : List Past) (rows : List Record) (d : Draft) (p
       ∷ (is_dangling its_grounds its_put, Validating)
       ∷ []
 
-  fault_taken : is_there rows (name_of_draft d) ≡ true → fault_of_put its_grounds its_put [] ≡ refusal_of_create rows d
+  fault_taken : is_there rows name ≡ true → fault_of_put its_grounds its_put [] ≡ refusal_of_create rows name d
   fault_taken is = first_passes (is_name_taken its_grounds its_put []) Exists later_checks (or_left (is_in_view its_grounds its_put)
-      (is_hidden its_grounds its_put || (is_in [] (name_of_draft d) || has_shared_root its_grounds its_put)) (ap (λ b. not (not b)) is))
+      (is_hidden its_grounds its_put || (is_in [] name || has_shared_root its_grounds its_put)) (ap (λ b. not (not b)) is))
       ∙ sym (ap (λ b. if b then Some Exists else (if is_none d.rtype || is_too_large d then Some BadRequest else None)) is)
 
-  module _ (free : is_there rows (name_of_draft d) ≡ false) (unused : is_taken pasts (name_of_draft d) ≡ false) where
-    old_off : record_at rows (name_of_draft d) ≡ None
-    old_off = some_not (record_at rows (name_of_draft d)) (sym (there-found rows (name_of_draft d)) ∙ free)
+  module _ (free : is_there rows name ≡ false) (unused : is_taken pasts name ≡ false) where
+    old_off : record_at rows name ≡ None
+    old_off = some_not (record_at rows name) (sym (there-found rows name) ∙ free)
 
     begins_off : begins its_grounds its_put ≡ false
     begins_off i = not (free i) && plain.rtype i
@@ -199,67 +198,67 @@ module _ (key : ZoneKey) (pasts : List Past) (rows : List Record) (d : Draft) (p
 
     dangling_off : is_dangling its_grounds its_put ≡ false
     dangling_off i =
-        is_some_and (λ q. not (is_plain_in_working its_grounds its_put q) || is_ancestor its_grounds.working (name_of_draft d) q) (parent_off i)
+        is_some_and (λ q. not (is_plain_in_working its_grounds its_put q) || is_ancestor its_grounds.working name q) (parent_off i)
         || (is_some_and (λ x. not (is_plain_in_working its_grounds its_put x)) (root_off i) || all_lack its_grounds its_put d.fields plain.fields i)
 
-    fault_free : fault_of_put its_grounds its_put [] ≡ refusal_of_create rows d
+    fault_free : fault_of_put its_grounds its_put [] ≡ refusal_of_create rows name d
     fault_free = (λ i. if taken_off i then Some Exists else (if conflict_off i then Some Conflict else (if form_is i then Some BadRequest else (if dangling_off i then Some Validating else None))))
         ∙ sym (ap (λ b. if b then Some Exists else (if is_none d.rtype || is_too_large d then Some BadRequest else None)) free)
 
-  fault_is : (b : Bool) → is_there rows (name_of_draft d) ≡ b → is_taken pasts (name_of_draft d) ≡ b → fault_of_put its_grounds its_put [] ≡ refusal_of_create rows d
+  fault_is : (b : Bool) → is_there rows name ≡ b → is_taken pasts name ≡ b → fault_of_put its_grounds its_put [] ≡ refusal_of_create rows name d
   fault_is true there taken = fault_taken there
   fault_is false free unused = fault_free free unused
 
 -- ---- the effect
 
-module _ (key : ZoneKey) (moment : ℕ) (rows : List Record) (puts : List ℕ → ℕ) (d : Draft) (guids : List (List ℕ)) (plain : IsPlain d) (ascend : IsAscending rows) (free : is_there rows (name_of_draft d) ≡ false) where
+module _ (key : ZoneKey) (moment : ℕ) (rows : List Record) (puts : List ℕ → ℕ) (name guid : List ℕ) (d : Draft) (plain : IsPlain d) (ascend : IsAscending rows) (free : is_there rows name ≡ false) where
   abbrev its_request : Request
-  its_request = record { caller = owner key; moment = moment; seen = rows; rows = rows; puts = puts; ops = create d ∷ []; guids = guids }
+  its_request = record { caller = owner key; moment = moment; seen = rows; rows = rows; puts = puts; ops = create name guid d ∷ [] }
 
-  abbrev drawn : Putting
-  drawn = record { kind = Create; draft = d; guid = first_guid guids }
+  abbrev drawn : NamedOp
+  drawn = create name guid d
 
   abbrev all_rows : List Record
-  all_rows = with_record rows (drafted_record d)
+  all_rows = with_record rows (drafted_record name d)
 
   abbrev its_record : Record
-  its_record = created_record key.owner moment puts d
+  its_record = created_record key.owner moment puts name d
 
-  begun : new_record drawn ≡ drafted_record d
-  begun i = record (drafted_record d) {
+  begun : new_record drawn ≡ drafted_record name d
+  begun i = record (drafted_record name d) {
     parent = plain.parent i;
-    body = if plain.rtype i then option_map_or (λ root. Share (share_after (first_share root (first_guid guids)) d)) (root_given d) Plain else Plain;
+    body = if plain.rtype i then option_map_or (λ root. Share (share_after (first_share root guid) d)) (root_given d) Plain else Plain;
   }
 
-  unfound : record_at rows (name_of_draft d) ≡ None
-  unfound = some_not (record_at rows (name_of_draft d)) (sym (there-found rows (name_of_draft d)) ∙ free)
+  unfound : record_at rows name ≡ None
+  unfound = some_not (record_at rows name) (sym (there-found rows name) ∙ free)
 
-  puts_written : with_puts rows (create d ∷ []) guids ≡ all_rows
+  puts_written : with_puts rows (create name guid d ∷ []) ≡ all_rows
   puts_written = (λ i. fold with_record rows (cons_option (written_over drawn (unfound i)) [])) ∙ ap (with_record rows) begun
 
   unshared : (x : List ℕ) → list_any (λ (s : Record). is_share_of x s && not (is_there rows s.name)) all_rows ≡ false
-  unshared x = no_new_share rows (drafted_record d) x ascend refl
+  unshared x = no_new_share rows (drafted_record name d) x ascend refl
 
-  unlost : (x : List ℕ) → loses_mark Private rows (create d ∷ []) x ≡ false
+  unlost : (x : List ℕ) → loses_mark Private rows (create name guid d ∷ []) x ≡ false
   unlost x = any_none (λ (s : Record). is_share_of x s && false) rows (λ s. and-false (is_share_of x s))
 
-  mark_stays : (r : Record) → mark_of Private rows (create d ∷ []) all_rows r ≡ r.share
+  mark_stays : (r : Record) → mark_of Private rows (create name guid d ∷ []) all_rows r ≡ r.share
   mark_stays r i = option_map_or (λ (s : Record). Some s.name)
       (find_none (λ (s : Record). is_share_of r.name s && not (is_there rows s.name)) all_rows (unshared r.name) i)
       (if unlost r.name i then None else r.share)
 
   working_is : working its_request ≡ all_rows
-  working_is = ap (with_marks Private rows (create d ∷ [])) puts_written
-      ∙ map_same (λ (r : Record). record r { share = mark_of Private rows (create d ∷ []) all_rows r }) (λ r i. record r { share = mark_stays r i }) all_rows
+  working_is = ap (with_marks Private rows (create name guid d ∷ [])) puts_written
+      ∙ map_same (λ (r : Record). record r { share = mark_of Private rows (create name guid d ∷ []) all_rows r }) (λ r i. record r { share = mark_stays r i }) all_rows
 
-  put_is : (x : List ℕ) → is_put its_request x ≡ same x (name_of_draft d)
-  put_is x = ap (λ rs. (same x (name_of_draft d) || false) || list_any (is_new_share_of its_request.seen x) rs) working_is
-      ∙ ap (λ b. (same x (name_of_draft d) || false) || b) (unshared x) ∙ or-false (same x (name_of_draft d) || false) ∙ or-false (same x (name_of_draft d))
+  put_is : (x : List ℕ) → is_put its_request x ≡ same x name
+  put_is x = ap (λ rs. (same x name || false) || list_any (is_new_share_of its_request.seen x) rs) working_is
+      ∙ ap (λ b. (same x name || false) || b) (unshared x) ∙ or-false (same x name || false) ∙ or-false (same x name)
 
-  put_alone : filter (λ (r : Record). is_put its_request r.name) (working its_request) ≡ drafted_record d ∷ []
+  put_alone : filter (λ (r : Record). is_put its_request r.name) (working its_request) ≡ drafted_record name d ∷ []
   put_alone = (λ i. filter (λ (r : Record). put_is r.name i) (working_is i))
-      ∙ filtered_alone rows (drafted_record d) (λ (r : Record). same r.name (name_of_draft d)) (λ q off. off)
-      ∙ ap (λ b. cond b (drafted_record d ∷ []) []) (same-refl (name_of_draft d))
+      ∙ filtered_alone rows (drafted_record name d) (λ (r : Record). same r.name name) (λ q off. off)
+      ∙ ap (λ b. cond b (drafted_record name d ∷ []) []) (same-refl name)
 
   after_puts_is : after_puts its_request ≡ all_rows
   after_puts_is = ap (λ some. map (after_leaving its_request) (fold with_record rows some)) put_alone ∙ map_same (after_leaving its_request) (λ r. refl) all_rows
@@ -273,29 +272,29 @@ module _ (key : ZoneKey) (moment : ℕ) (rows : List Record) (puts : List ℕ �
   abbrev put_of : Bool → Record → Option Write
   put_of b r = write_as false b (stamped its_request r)
 
-  write_is : (r : Record) → write_of its_request [] r ≡ put_of (same r.name (name_of_draft d)) r
+  write_is : (r : Record) → write_of its_request [] r ≡ put_of (same r.name name) r
   write_is r = (λ i. write_as false (put_is r.name i || unmarked_none r i) (record (stamped its_request r) { share = if unmarked_none r i then None else r.share }))
-      ∙ ap (λ b. put_of b r) (or-false (same r.name (name_of_draft d)))
+      ∙ ap (λ b. put_of b r) (or-false (same r.name name))
 
-  stamped_is : stamped its_request (drafted_record d) ≡ its_record
+  stamped_is : stamped its_request (drafted_record name d) ≡ its_record
   stamped_is i = record its_record { created = if free i then no_stamp else stamp its_request }
 
   writes_are : writes its_request (removed its_request) ≡ Put its_record ∷ []
   writes_are = ap (writes its_request) none_removed
       ∙ (λ i. filter_map (λ (r : Record). write_is r i) (after_puts_is i))
-      ∙ mapped_alone rows (drafted_record d) (λ (r : Record). put_of (same r.name (name_of_draft d)) r) (λ q off. ap (λ b. put_of b q) off)
-      ∙ ap (λ b. cons_option (put_of b (drafted_record d)) []) (same-refl (name_of_draft d))
+      ∙ mapped_alone rows (drafted_record name d) (λ (r : Record). put_of (same r.name name) r) (λ q off. ap (λ b. put_of b q) off)
+      ∙ ap (λ b. cons_option (put_of b (drafted_record name d)) []) (same-refl name)
       ∙ ap (λ r. Put r ∷ []) stamped_is
 
   effect_is : effect its_request ≡ commit_of_put key key.owner moment its_record ∷ []
   effect_is = ap (commits_with its_request) writes_are
 
-  found_new : record_at (working its_request) (name_of_draft d) ≡ Some (drafted_record d)
-  found_new = ap (λ rs. record_at rs (name_of_draft d)) working_is ∙ found-with rows (drafted_record d) (name_of_draft d)
-      ∙ ap (λ b. cond b (Some (drafted_record d)) (record_at rows (name_of_draft d))) (same-refl (name_of_draft d))
+  found_new : record_at (working its_request) name ≡ Some (drafted_record name d)
+  found_new = ap (λ rs. record_at rs name) working_is ∙ found-with rows (drafted_record name d) name
+      ∙ ap (λ b. cond b (Some (drafted_record name d)) (record_at rows name)) (same-refl name)
 
-  done_is : done its_request (create d) ≡ Placed its_record
-  done_is = ap (λ (o : Option Record). option_map_or (λ (r : Record). Placed (stamped its_request r)) o (Deleted (name_of_draft d))) found_new ∙ ap Placed stamped_is
+  done_is : done its_request (create name guid d) ≡ Placed its_record
+  done_is = ap (λ (o : Option Record). option_map_or (λ (r : Record). Placed (stamped its_request r)) o (Deleted name)) found_new ∙ ap Placed stamped_is
 
 -- ---- the law
 
@@ -303,7 +302,7 @@ alone : (o : Option OpFault) → together (o ∷ []) ≡ o ∷ []
 alone None = refl
 alone (Some f) = refl
 
-shown_by : (a b : Bool) (fault : OpFault) (seen : List Record) (op : Op) → (if a then Some Exists else (if b then Some BadRequest else None)) ≡ Some fault → shown_with fault seen op ≡ None
+shown_by : (a b : Bool) (fault : OpFault) (seen : List Record) (op : NamedOp) → (if a then Some Exists else (if b then Some BadRequest else None)) ≡ Some fault → shown_with fault seen op ≡ None
 shown_by true b fault seen op e = subst (λ f. shown_with f seen op ≡ None) (same_Some Exists fault e) refl
 shown_by false true fault seen op e = subst (λ f. shown_with f seen op ≡ None) (same_Some BadRequest fault e) refl
 shown_by false false fault seen op e = absurd (both_ways false refl (ap (λ (o : Option OpFault). option_map_or (λ _. true) o false) e))
@@ -316,35 +315,35 @@ view_is : (key : ZoneKey) (log : List Commit) → (zone_at log key).there ≡ tr
 view_is key log there = ap (λ b. if b then owner_view (zone_at log key) else nowhere) (same-refl key.owner)
     ∙ ap (λ b. if b then record { here = true; rows = (zone_at log key).rows } else nowhere) there
 
-module _ (key : ZoneKey) (moment : ℕ) (log : List Commit) (d : Draft) (there : (zone_at log key).there ≡ true) (plain : IsPlain d) where
-  past_is : is_taken (name_history log key (create d ∷ [])) (name_of_draft d) ≡ is_there (zone_at log key).rows (name_of_draft d)
-  past_is = ap (λ b. is_some_and (λ (p : Past). p.taken) (cond b (Some (past_of log key (name_of_draft d))) None)) (same-refl (name_of_draft d))
+module _ (key : ZoneKey) (moment : ℕ) (log : List Commit) (name guid : List ℕ) (d : Draft) (there : (zone_at log key).there ≡ true) (plain : IsPlain d) where
+  past_is : is_taken (name_history log key (create name guid d ∷ [])) name ≡ is_there (zone_at log key).rows name
+  past_is = ap (λ b. is_some_and (λ (p : Past). p.taken) (cond b (Some (past_of log key name)) None)) (same-refl name)
 
-  judged_at : judgement_at (owner key) moment log (create d ∷ []) ≡ refusal_of_create (zone_at log key).rows d ∷ []
-  judged_at = ap (λ v. judgement v (name_history log key (create d ∷ [])) (create d ∷ []) (owner key)) (view_is key log there)
-      ∙ ap (λ o. together (o ∷ [])) (fault_is key (name_history log key (create d ∷ [])) (zone_at log key).rows d plain (is_there (zone_at log key).rows (name_of_draft d)) refl past_is)
-      ∙ alone (refusal_of_create (zone_at log key).rows d)
+  judged_at : judgement_at (owner key) moment log (create name guid d ∷ []) ≡ refusal_of_create (zone_at log key).rows name d ∷ []
+  judged_at = ap (λ v. judgement v (name_history log key (create name guid d ∷ [])) (create name guid d ∷ []) (owner key)) (view_is key log there)
+      ∙ ap (λ o. together (o ∷ [])) (fault_is key (name_history log key (create name guid d ∷ [])) (zone_at log key).rows name guid d plain (is_there (zone_at log key).rows name) refl past_is)
+      ∙ alone (refusal_of_create (zone_at log key).rows name d)
 
-  refused_at : (guids : List (List ℕ)) (fault : OpFault) → refusal_of_create (zone_at log key).rows d ≡ Some fault
-      → modified_as_one (owner key) moment log (create d ∷ []) guids ≡ record { outcomes = Refused fault None ∷ []; commits = [] }
-  refused_at guids fault e =
-      let q = request_at (owner key) moment log (create d ∷ []) guids in
+  refused_at : (fault : OpFault) → refusal_of_create (zone_at log key).rows name d ≡ Some fault
+      → modified_as_one (owner key) moment log (create name guid d ∷ []) ≡ record { outcomes = Refused fault None ∷ []; commits = [] }
+  refused_at fault e =
+      let q = request_at (owner key) moment log (create name guid d ∷ []) in
       let judged = judged_at ∙ ap (λ o. o ∷ []) e in
-      (λ i. record { outcomes = map (outcome_of q) (zip (create d ∷ []) (judged i)); commits = if has_fault (judged i) then [] else effect q })
-      ∙ ap (λ o. record { outcomes = Refused fault o ∷ []; commits = [] }) (shown_by (is_there (zone_at log key).rows (name_of_draft d)) (is_none d.rtype || is_too_large d) fault q.seen (create d) e)
+      (λ i. record { outcomes = map (outcome_of q) (zip (create name guid d ∷ []) (judged i)); commits = if has_fault (judged i) then [] else effect q })
+      ∙ ap (λ o. record { outcomes = Refused fault o ∷ []; commits = [] }) (shown_by (is_there (zone_at log key).rows name) (is_none d.rtype || is_too_large d) fault q.seen (create name guid d) e)
 
-  made_at : (guids : List (List ℕ)) → refusal_of_create (zone_at log key).rows d ≡ None
-      → (let r = created_record key.owner moment (puts_at log key) d in
-      modified_as_one (owner key) moment log (create d ∷ []) guids ≡ record { outcomes = Placed r ∷ []; commits = commit_of_put key key.owner moment r ∷ [] })
-  made_at guids e =
+  made_at : refusal_of_create (zone_at log key).rows name d ≡ None
+      → (let r = created_record key.owner moment (puts_at log key) name d in
+      modified_as_one (owner key) moment log (create name guid d ∷ []) ≡ record { outcomes = Placed r ∷ []; commits = commit_of_put key key.owner moment r ∷ [] })
+  made_at e =
       let rows = (zone_at log key).rows in
-      let free = free_by (is_there rows (name_of_draft d)) (is_none d.rtype || is_too_large d) e in
+      let free = free_by (is_there rows name) (is_none d.rtype || is_too_large d) e in
       let judged = judged_at ∙ ap (λ o. o ∷ []) e in
-      let at : View → Request = λ v. record { caller = owner key; moment = moment; seen = v.rows; rows = rows; puts = puts_at log key; ops = create d ∷ []; guids = guids } in
-      (λ i. record { outcomes = map (outcome_of (at (view_is key log there i))) (zip (create d ∷ []) (judged i)); commits = if has_fault (judged i) then [] else effect (at (view_is key log there i)) })
+      let at : View → Request = λ v. record { caller = owner key; moment = moment; seen = v.rows; rows = rows; puts = puts_at log key; ops = create name guid d ∷ [] } in
+      (λ i. record { outcomes = map (outcome_of (at (view_is key log there i))) (zip (create name guid d ∷ []) (judged i)); commits = if has_fault (judged i) then [] else effect (at (view_is key log there i)) })
       ∙ (λ i. record {
-        outcomes = done_is key moment rows (puts_at log key) d guids plain (ascending-zone log key) free i ∷ [];
-        commits = effect_is key moment rows (puts_at log key) d guids plain (ascending-zone log key) free i;
+        outcomes = done_is key moment rows (puts_at log key) name guid d plain (ascending-zone log key) free i ∷ [];
+        commits = effect_is key moment rows (puts_at log key) name guid d plain (ascending-zone log key) free i;
       })
 
 create_kind : (kind : OpKind) → is_create kind ≡ true → kind ≡ Create
@@ -359,8 +358,8 @@ create_kind ForceDelete e = absurd (both_ways false refl e)
 owner_is : (caller : Caller) → IsOwner caller → caller ≡ owner caller.key
 owner_is caller own i = record { user = own.user i; scope = own.scope i; key = caller.key }
 
-create_is : (op : Op) → is_create op.kind ≡ true → op ≡ create op.draft
-create_is op e i = record { kind = create_kind op.kind e i; draft = op.draft }
+create_is : (op : NamedOp) → is_create op.kind ≡ true → op ≡ create op.name op.guid op.draft
+create_is op e i = record { kind = create_kind op.kind e i; draft = op.draft; name = op.name; guid = op.guid }
 
 pub owners_see : OwnersSeeAll
 owners_see caller log own there = (λ i. view_of log (own.user i) (own.scope i) caller.key) ∙ view_is caller.key log there
@@ -369,17 +368,17 @@ pub creates_done : PlainCreatesAreDone
 creates_done = record {
   judged = λ caller moment log op own there plain.
       let parts = and_parts (is_create op.kind) _ plain in
-      (λ i. judgement_at (owner_is caller own i) moment log (create_is op parts.0 i ∷ [])) ∙ judged_at caller.key moment log op.draft there (is_plain op.draft parts.1);
-  refused = λ caller moment log op guids fault own there plain e.
+      (λ i. judgement_at (owner_is caller own i) moment log (create_is op parts.0 i ∷ [])) ∙ judged_at caller.key moment log op.name op.guid op.draft there (is_plain op.draft parts.1);
+  refused = λ caller moment log op fault own there plain e.
       let parts = and_parts (is_create op.kind) _ plain in
-      (λ i. modified_as_one (owner_is caller own i) moment log (create_is op parts.0 i ∷ []) guids)
-      ∙ refused_at caller.key moment log op.draft there (is_plain op.draft parts.1) guids fault e;
-  made = λ caller moment log op guids own there plain e.
+      (λ i. modified_as_one (owner_is caller own i) moment log (create_is op parts.0 i ∷ []))
+      ∙ refused_at caller.key moment log op.name op.guid op.draft there (is_plain op.draft parts.1) fault e;
+  made = λ caller moment log op own there plain e.
       let parts = and_parts (is_create op.kind) _ plain in
-      (λ i. modified_as_one (owner_is caller own i) moment log (create_is op parts.0 i ∷ []) guids)
-      ∙ made_at caller.key moment log op.draft there (is_plain op.draft parts.1) guids e
+      (λ i. modified_as_one (owner_is caller own i) moment log (create_is op parts.0 i ∷ []))
+      ∙ made_at caller.key moment log op.name op.guid op.draft there (is_plain op.draft parts.1) e
       ∙ sym (ap (λ user.
-      let r = created_record user moment (puts_at log caller.key) op.draft in
+      let r = created_record user moment (puts_at log caller.key) op.name op.draft in
       record { outcomes = Placed r ∷ []; commits = commit_of_put caller.key user moment r ∷ [] }) own.user);
 }
 
@@ -396,10 +395,6 @@ small_by false true c e = absurd (both_ways true (ap (λ (o : Option OpFault). o
 small_by false false true e = absurd (both_ways true (ap (λ (o : Option OpFault). option_map_or (λ _. true) o false) e) refl)
 small_by false false false e = refl
 
-named_by : (o : Option (List ℕ)) → is_some o ≡ true → is_none o ≡ false
-named_by None e = absurd (both_ways false refl e)
-named_by (Some x) e = refl
-
 plain_type : (o : Option (List ℕ)) → is_none o ≡ false → is_some_and is_share_type o ≡ false → is_share_type (unwrap_or o []) ≡ false
 plain_type None e off = absurd (both_ways true e refl)
 plain_type (Some x) e off = off
@@ -409,14 +404,14 @@ creates_in_form = record {
   kept = λ user moment rows puts op plain e named meant is in_range counts.
       let d = op.draft in
       let p = is_plain d (and_parts (is_create op.kind) _ plain).1 in
-      let typed = typed_by (is_there rows (name_of_draft d)) (is_none d.rtype) (is_too_large d) e in
+      let typed = typed_by (is_there rows op.name) (is_none d.rtype) (is_too_large d) e in
       record {
-        name = some_form d.name (named_by d.name named) meant.name;
+        name = named;
         rtype = some_form d.rtype typed meant.rtype;
         tag = (omega arith, counts);
         parent = tt;
         share = tt;
-        fields = fields-form d.fields [] meant.fields.0 (tt, refl) (small_by (is_there rows (name_of_draft d)) (is_none d.rtype) (is_too_large d) e);
+        fields = fields-form d.fields [] meant.fields.0 (tt, refl) (small_by (is_there rows op.name) (is_none d.rtype) (is_too_large d) e);
         created = record { moment = in_range; user = is };
         modified = record { moment = in_range; user = is };
         body = plain_type d.rtype typed p.rtype;

@@ -7,14 +7,13 @@ use Rattle.std.proofs.lemmas.Bool.{both_ways, and_parts, and_from, or_left, or_r
 use Rattle.std.proofs.lemmas.Option.{same_Some}
 use Rattle.ck_base.specs.declared.scope.Scope.{Scope}
 use Rattle.record_model.specs.declared.records.Record.{Record}
-use Rattle.zone_model.specs.declared.operations.Op.{Op}
 use Rattle.zone_model.specs.declared.operations.Past.{Past}
 use Rattle.zone_model.specs.Names.{same, is_in, is_private}
 use Rattle.name_rules.specs.Options.{is_some_and, or_else}
 use Rattle.zone_model.specs.Records.{record_at, is_there, is_share, IsAscending}
 use Rattle.zone_model.specs.References.{goes_with}
 use Rattle.zone_model.specs.Ancestry.{is_ancestor}
-use Rattle.zone_model.specs.Requests.{Putting, name_of_put, puts_in, names_deleted}
+use Rattle.zone_model.specs.Requests.{NamedOp, puts_in, names_deleted}
 use Rattle.zone_model.specs.Putting.{records_written}
 use Rattle.zone_model.specs.Working.{is_new_share_of, is_share_of, mark_of, with_puts, loses_mark}
 use Rattle.zone_model.specs.Grounds.{is_taken_by_deletion}
@@ -45,7 +44,7 @@ abbrev pub new_share_of : List Record → List Record → List ℕ → Option (L
 new_share_of seen rows root = option_map_or (λ (s : Record). Some s.name) (find (is_new_share_of seen root) rows) None
 
 -- a mark is the new share's name, or else another
-pub mark_is : (scope : Scope) (seen : List Record) (ops : List Op) (rows : List Record) (r : Record)
+pub mark_is : (scope : Scope) (seen : List Record) (ops : List NamedOp) (rows : List Record) (r : Record)
     → mark_of scope seen ops rows r ≡ or_else (new_share_of seen rows r.name) (if loses_mark scope seen ops r.name then None else r.share)
 mark_is scope seen ops rows r = by_new (find (is_new_share_of seen r.name) rows) (if loses_mark scope seen ops r.name then None else r.share)
   where
@@ -55,7 +54,7 @@ mark_is scope seen ops rows r = by_new (find (is_new_share_of seen r.name) rows)
 
 module _ (q : Request) (pasts : List Past) (fine : IsFine q pasts) where
   abbrev pub put_rows : List Record
-  put_rows = with_puts q.seen q.ops q.guids
+  put_rows = with_puts q.seen q.ops
 
   abbrev pub mark : Record → Option (List ℕ)
   mark r = mark_of q.caller.scope q.seen q.ops put_rows r
@@ -64,7 +63,7 @@ module _ (q : Request) (pasts : List Past) (fine : IsFine q pasts) where
   marked r = record r { share = mark r }
 
   put_rows_in_order : IsAscending put_rows
-  put_rows_in_order = ascending-fold (records_written q.seen (puts_in q.ops q.guids)) q.seen fine.seen_in_order
+  put_rows_in_order = ascending-fold (records_written q.seen (puts_in q.ops)) q.seen fine.seen_in_order
 
   working_is : (x : List ℕ) → record_at (working q) x ≡ option_map marked (record_at put_rows x)
   working_is x = found-map marked (λ r. refl) put_rows x
@@ -79,14 +78,14 @@ module _ (q : Request) (pasts : List Past) (fine : IsFine q pasts) where
 
   pub row_seen : (x : List ℕ) (row v : Record) → record_at put_rows x ≡ Some row → record_at q.seen x ≡ Some v → row.share ≡ v.share
   row_seen x row v at seen =
-      let puts = puts_in q.ops q.guids in
+      let puts = puts_in q.ops in
       let c = changed_at q.seen puts x (put_at puts x) v refl seen in
-      ap (λ (r : Record). r.share) (same_Some row c.row (sym at ∙ found-puts q.seen q.ops q.guids x ∙ ap (put_over q.seen (put_at puts x)) seen ∙ c.is)) ∙ c.share
+      ap (λ (r : Record). r.share) (same_Some row c.row (sym at ∙ found-puts q.seen q.ops x ∙ ap (put_over q.seen (put_at puts x)) seen ∙ c.is)) ∙ c.share
 
   pub row_new : (x : List ℕ) (row : Record) → record_at put_rows x ≡ Some row → record_at q.seen x ≡ None → row.share ≡ None
   row_new x row at unseen =
-      let puts = puts_in q.ops q.guids in
-      let b = begun_at q.seen puts x (put_at puts x) row refl unseen (sym (ap (put_over q.seen (put_at puts x)) unseen) ∙ sym (found-puts q.seen q.ops q.guids x) ∙ at) in
+      let puts = puts_in q.ops in
+      let b = begun_at q.seen puts x (put_at puts x) row refl unseen (sym (ap (put_over q.seen (put_at puts x)) unseen) ∙ sym (found-puts q.seen q.ops x) ∙ at) in
       ap (λ (r : Record). r.share) (sym b.is)
 
   -- ---- new shares of a root
@@ -203,7 +202,7 @@ module _ (q : Request) (pasts : List Past) (fine : IsFine q pasts) where
         let t = plain-found (ground q pasts).working a s.plain in
         let wa = judged-working q pasts fine a t.0 t.1 in
         let away : not (is_there q.seen w.name) ≡ true = ap not (ap (is_there q.seen) (sym (same-true x w.name (found-name (working q) x w added.at))) ∙ there-found q.seen x ∙ ap is_some added.new.unseen) in
-        let put : is_put q a ≡ true = or_right (list_any (λ (p : Putting). same a (name_of_put p)) (puts_in q.ops q.guids)) (list_any (is_new_share_of q.seen a) (working q))
+        let put : is_put q a ≡ true = or_right (list_any (λ (p : NamedOp). same a p.name) (puts_in q.ops)) (list_any (is_new_share_of q.seen a) (working q))
         (any-from (is_new_share_of q.seen a) (working q) x w added.at (and_from (is_share_of a w) _ (share_true a w wroot) away)) in
         let r = unmarked a wa.0 wa.1 in
         let name : r.0.name ≡ a = sym (same-true a r.0.name (found-name put_rows a r.0 r.1)) in

@@ -35,7 +35,7 @@ pointwise-true E exact (x ∷ xs) (y ∷ ys) e =
     let tail = pointwise-true E exact xs ys h.1 in
     λ i. head i ∷ tail i
 
-option-true : (a b : Option (List ℕ)) → same_option a b ≡ true → a ≡ b
+pub option-true : (a b : Option (List ℕ)) → same_option a b ≡ true → a ≡ b
 option-true None None e = refl
 option-true None (Some b) e = absurd (both_ways false refl e)
 option-true (Some a) None e = absurd (both_ways false refl e)

@@ -21,16 +21,16 @@ use Rattle.zone_model.specs.Names.{same}
 use Rattle.name_rules.specs.Options.{is_some_and, is_none_or}
 use Rattle.record_model.specs.RecordForms.{share_in}
 use Rattle.zone_model.specs.Records.{record_at}
-use Rattle.zone_model.specs.Requests.{Putting, name_of_put, makes_new, changes_old, puts_in, has_share_type, root_given}
+use Rattle.zone_model.specs.Requests.{NamedOp, makes_new, changes_old, puts_in, has_share_type, root_given}
 use Rattle.zone_model.specs.Sharing.{share_after}
 use Rattle.share_records.specs.ShareLists.{participant_at, kept_as, with_participant, rewritten, is_refused_list, first_share}
 use Rattle.zone_model.specs.Putting.{new_record, changed_record, written_over, body_after}
-use Rattle.zone_model.specs.Lawful.{has_good_parent, has_good_root, has_good_mark, is_within_limits}
+use Rattle.zone_laws.specs.LawfulTests.{has_good_parent, has_good_root, has_good_mark, is_within_limits}
 use Rattle.zone_model.specs.Effect.{Request, working, body_without, is_put, is_left, after_leaving, after_puts}
 use Rattle.share_records.proofs.ListLemmas.{refused-is}
 use Rattle.name_rules.proofs.NameLemmas.{same-true, before-asym}
 use Rattle.zone_laws.proofs.RecordLaws.{none-some}
-use Rattle.zone_laws.proofs.WorkingLaws.{put_at, put_over, found-puts, blank}
+use Rattle.zone_laws.proofs.WorkingLaws.{put_at, put_over, found-puts}
 use Rattle.zone_laws.proofs.CoreLaws.{put-name}
 use Rattle.zone_laws.proofs.KeptLaws.{IsFine, checked, after_is, fits}
 use Rattle.zone_laws.proofs.RootLaws.{unmarked}
@@ -134,45 +134,45 @@ module _ (q : Request) (pasts : List Past) (fine : IsFine q pasts) where
   within-zone x z there = (and_parts (has_good_mark q.rows z) _ (and_parts (has_good_root q.rows z) _ (and_parts (has_good_parent q.rows z) _ (fits q pasts fine x z there)).1).1).1
 
   -- what a put writes is not too large
-  not_large : (x : List ℕ) (p : Putting) (r : Record) → put_at (puts_in q.ops q.guids) x ≡ Some p → written_over (blank p) (record_at q.seen x) ≡ Some r → nat_le (size_of_record r) most_record_size ≡ true
+  not_large : (x : List ℕ) (p : NamedOp) (r : Record) → put_at (puts_in q.ops) x ≡ Some p → written_over p (record_at q.seen x) ≡ Some r → nat_le (size_of_record r) most_record_size ≡ true
   not_large x p r at e =
-      let name : x ≡ name_of_put p = same-true x (name_of_put p) (put-name (puts_in q.ops q.guids) x p at) in
+      let name : x ≡ p.name = same-true x p.name (put-name (puts_in q.ops) x p at) in
       let small = (checked q pasts fine x p at).small in
-      let written : written_over (blank p) (record_at q.seen (name_of_put p)) ≡ Some r = ap (λ y. written_over (blank p) (record_at q.seen y)) (sym name) ∙ e in
+      let written : written_over p (record_at q.seen p.name) ≡ Some r = ap (λ y. written_over p (record_at q.seen y)) (sym name) ∙ e in
       le_true (size_of_record r) most_record_size (ltb-false most_record_size (size_of_record r)
       (sym (ap (is_some_and (λ (s : Record). nat_lt most_record_size (size_of_record s))) written) ∙ small))
 
-  old_within : (b : Bool) (x : List ℕ) (p : Putting) (v r : Record) → put_at (puts_in q.ops q.guids) x ≡ Some p → record_at q.seen x ≡ Some v → changes_old p.kind ≡ b
+  old_within : (b : Bool) (x : List ℕ) (p : NamedOp) (v r : Record) → put_at (puts_in q.ops) x ≡ Some p → record_at q.seen x ≡ Some v → changes_old p.kind ≡ b
       → option_map_or Some (if b then Some (changed_record p v) else None) (Some v) ≡ Some r → is_within_limits r ≡ true
   old_within true x p v r at seen changes e =
       let z = within-zone x v (fine.part.part x v seen) in
-      let size = not_large x p (changed_record (blank p) v) at (ap (written_over (blank p)) seen ∙ ap (λ c. if c then Some (changed_record (blank p) v) else None) changes) in
+      let size = not_large x p (changed_record p v) at (ap (written_over p) seen ∙ ap (λ c. if c then Some (changed_record p v) else None) changes) in
       subst (λ (t : Record). is_within_limits t ≡ true) (same_Some (changed_record p v) r e)
       (and_from (nat_le (size_of_record (changed_record p v)) most_record_size) _ size (few_after q.caller.key.owner v.body p.draft (checked q pasts fine x p at).listed (and_parts (nat_le (size_of_record v) most_record_size) _ z).1))
   old_within false x p v r at seen changes e = subst (λ (t : Record). is_within_limits t ≡ true) (same_Some v r e) (within-zone x v (fine.part.part x v seen))
 
-  new_within : (b : Bool) (x : List ℕ) (p : Putting) (r : Record) → put_at (puts_in q.ops q.guids) x ≡ Some p → record_at q.seen x ≡ None → makes_new p.kind ≡ b
+  new_within : (b : Bool) (x : List ℕ) (p : NamedOp) (r : Record) → put_at (puts_in q.ops) x ≡ Some p → record_at q.seen x ≡ None → makes_new p.kind ≡ b
       → option_map_or Some (if b then Some (new_record p) else None) None ≡ Some r → is_within_limits r ≡ true
   new_within true x p r at unseen makes e =
-      let size = not_large x p (new_record (blank p)) at (ap (written_over (blank p)) unseen ∙ ap (λ c. if c then Some (new_record (blank p)) else None) makes) in
+      let size = not_large x p (new_record p) at (ap (written_over p) unseen ∙ ap (λ c. if c then Some (new_record p) else None) makes) in
       subst (λ (t : Record). is_within_limits t ≡ true) (same_Some (new_record p) r e)
       (and_from (nat_le (size_of_record (new_record p)) most_record_size) _ size (few_new q.caller.key.owner (has_share_type p.draft) (root_given p.draft) p.draft p.guid (checked q pasts fine x p at).listed))
   new_within false x p r at unseen makes e = absurd (none-some None r refl e)
 
-  over_within : (i : Option Putting) (o : Option Record) (x : List ℕ) (r : Record) → put_at (puts_in q.ops q.guids) x ≡ i → record_at q.seen x ≡ o → put_over q.seen i o ≡ Some r → is_within_limits r ≡ true
+  over_within : (i : Option NamedOp) (o : Option Record) (x : List ℕ) (r : Record) → put_at (puts_in q.ops) x ≡ i → record_at q.seen x ≡ o → put_over q.seen i o ≡ Some r → is_within_limits r ≡ true
   over_within None None x r at seen e = absurd (none-some None r refl e)
   over_within None (Some v) x r at seen e = subst (λ (t : Record). is_within_limits t ≡ true) (same_Some v r e) (within-zone x v (fine.part.part x v seen))
   over_within (Some p) None x r at seen e =
-      let name : x ≡ name_of_put p = same-true x (name_of_put p) (put-name (puts_in q.ops q.guids) x p at) in
+      let name : x ≡ p.name = same-true x p.name (put-name (puts_in q.ops) x p at) in
       new_within (makes_new p.kind) x p r at seen refl (ap (λ o. option_map_or Some (written_over p o) None) (sym (ap (record_at q.seen) (sym name) ∙ seen)) ∙ e)
   over_within (Some p) (Some v) x r at seen e =
-      let name : x ≡ name_of_put p = same-true x (name_of_put p) (put-name (puts_in q.ops q.guids) x p at) in
+      let name : x ≡ p.name = same-true x p.name (put-name (puts_in q.ops) x p at) in
       old_within (changes_old p.kind) x p v r at seen refl (ap (λ o. option_map_or Some (written_over p o) (Some v)) (sym (ap (record_at q.seen) (sym name) ∙ seen)) ∙ e)
 
   within-working : (x : List ℕ) (w : Record) → record_at (working q) x ≡ Some w → is_within_limits w ≡ true
   within-working x w is =
       let r = unmarked q pasts fine x w is in
-      let e = over_within (put_at (puts_in q.ops q.guids) x) (record_at q.seen x) x r.0 refl refl (sym (found-puts q.seen q.ops q.guids x) ∙ r.1) in
+      let e = over_within (put_at (puts_in q.ops) x) (record_at q.seen x) x r.0 refl refl (sym (found-puts q.seen q.ops x) ∙ r.1) in
       subst (λ (t : Record). is_within_limits t ≡ true) r.2 e
 
   after_by : (b : Bool) (w z : Option Record) (x : List ℕ) (a : Record) → is_put q x ≡ b → record_at (working q) x ≡ w → record_at q.rows x ≡ z → record_at (after_puts q) x ≡ Some a → is_within_limits a ≡ true

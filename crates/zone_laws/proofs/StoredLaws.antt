@@ -1,6 +1,6 @@
 -- What a request commits has the form of a commit.
 use Rattle.std.proofs.Common.{◌≡◌, ℕ, suc, ◌<◌, ◌^◌, List, [], ◌∷◌, Bool, true, false, cond, ◌&&◌, refl, sym, ap, ◌∙◌, subst, arith, Some, None, Option, length, ◌+◌, ◌++◌, not, append_assoc}
-use Rattle.std.specs.Prelude.{filter_map, fold, is_some, is_none, unwrap_or, if◌then◌else◌, IfSome, count_by, drop, nat_lt}
+use Rattle.std.specs.Prelude.{filter_map, fold, is_some, is_none, unwrap_or, if◌then◌else◌, IfSome, count_by, nat_lt}
 use Rattle.std.specs.Option.{option_map_or}
 use Rattle.std.specs.List.{list_all, cons_option, AllByRecursion, list_any}
 use Rattle.std.proofs.lemmas.Bool.{both_ways, and_parts, cond-true, or_left, or_right}
@@ -18,7 +18,6 @@ use Rattle.record_model.specs.declared.records.Record.{Record}
 use Rattle.record_model.specs.DraftForms.{IsParentWish, IsForRoot, IsWanted}
 use Rattle.record_model.specs.RecordSizes.{size_of_record}
 use Rattle.record_model.specs.RecordForms.{IsStamp, AreFields, is_share_type, IsBodyOf, IsStored}
-use Rattle.zone_model.specs.declared.operations.Op.{Op}
 use Rattle.zone_model.specs.declared.operations.Past.{Past}
 use Rattle.zone_model.specs.declared.commits.Write.{Write}
 use Rattle.zone_model.specs.declared.commits.Write.TheVariants.{Put, Remove, PutRemove}
@@ -31,7 +30,7 @@ use Rattle.name_rules.specs.Options.{is_some_and}
 use Rattle.zone_model.specs.Records.{record_at, names_in, is_there, IsAscending}
 use Rattle.zone_model.specs.Zones.{Zone, first_zone, commits_at, after_write, after_act, zone_at, puts_at, written_name, puts_name, act_puts}
 use Rattle.zone_model.specs.Views.{is_empty}
-use Rattle.zone_model.specs.Requests.{Caller, Putting, roots_in, name_of_put, makes_new, changes_old, drops_fields, puts_in, parent_given, has_share_type, root_given, is_deletion, first_guid, guids_left}
+use Rattle.zone_model.specs.Requests.{Caller, NamedOp, roots_in, makes_new, changes_old, drops_fields, puts_in, parent_given, has_share_type, root_given, is_deletion}
 use Rattle.zone_model.specs.Sharing.{share_after}
 use Rattle.share_records.specs.ShareLists.{first_share}
 use Rattle.zone_model.specs.Putting.{new_record, changed_record, written_over}
@@ -41,13 +40,13 @@ use Rattle.zone_model.specs.Judging.{has_fault}
 use Rattle.zone_model.specs.Effect.{Request, working, body_without, is_put, is_left, after_leaving, after_puts, removed, is_unmarked, is_written, stamp, final, write_of, writes, effect}
 use Rattle.zone_model.specs.Modifying.{request_at, judgement_at, effect_at, modified_as_one, modified_apart}
 use Rattle.zone_model.specs.Form.{IsKey, IsWrite, IsActInForm, IsInForm}
-use Rattle.zone_model.specs.Lawful.{are_lawful}
+use Rattle.zone_laws.specs.LawfulTests.{are_lawful}
 use Rattle.zone_laws.specs.Laws.{IsGivenPut, EffectsAreInForm, HaveRoom, HasFewWrites}
 use Rattle.zone_laws.proofs.NameLaws.{key-refl}
 use Rattle.name_rules.proofs.NameLemmas.{same-true, same-refl}
 use Rattle.zone_laws.proofs.RecordLaws.{none-some, found-name, found-below, later_step, found-after, left_by}
 use Rattle.zone_laws.proofs.EffectLaws.{effects_in_order, write_by}
-use Rattle.zone_laws.proofs.WorkingLaws.{put_at, put_over, found-puts, blank}
+use Rattle.zone_laws.proofs.WorkingLaws.{put_at, put_over, found-puts}
 use Rattle.zone_laws.proofs.JudgeLaws.{there-found}
 use Rattle.zone_laws.proofs.CoreLaws.{none_put, put-name}
 use Rattle.zone_laws.proofs.KeptLaws.{ground, IsFine, checked, is-new, not_hidden, after_is}
@@ -57,6 +56,7 @@ use Rattle.zone_laws.proofs.LawfulLaws.{mark_there, is_fine, one_root, lawful-ap
 use Rattle.zone_laws.proofs.FormLaws.{every-filter, AreInOrder, IsTaken, fields-form, share-form, first-form, body-form, body-left, every-append}
 use Rattle.std.proofs.lemmas.List.Folds.{list_any-append}
 use Rattle.zone_laws.proofs.LogLaws.{puts-append}
+use Rattle.zone_laws.proofs.TestLaws.{in_turn_back}
 
 -- ---- zones after commits in their form
 
@@ -121,13 +121,13 @@ new_body_form : (owner : List ℕ) (r o : Option (List ℕ)) (d : Draft) (guid :
 new_body_form owner None o d guid taken some given all = absurd (both_ways true some refl)
 new_body_form owner (Some t) o d guid taken some given all = shared_form owner t (is_share_type t) o d guid taken refl given all
 
-put_found : (s : Bool) (q p : Putting) (o : Option Putting) → IsGivenPut q → (o ≡ Some p → IsGivenPut p) → cond s (Some q) o ≡ Some p → IsGivenPut p
+put_found : (s : Bool) (q p : NamedOp) (o : Option NamedOp) → IsGivenPut q → (o ≡ Some p → IsGivenPut p) → cond s (Some q) o ≡ Some p → IsGivenPut p
 put_found true q p o one more e = subst IsGivenPut (same_Some q p e) one
 put_found false q p o one more e = more e
 
-given_at : (ps : List Putting) (x : List ℕ) (p : Putting) → AllByRecursion IsGivenPut ps → put_at ps x ≡ Some p → IsGivenPut p
+given_at : (ps : List NamedOp) (x : List ℕ) (p : NamedOp) → AllByRecursion IsGivenPut ps → put_at ps x ≡ Some p → IsGivenPut p
 given_at [] x p all e = absurd (none_put p e)
-given_at (q ∷ ps) x p all e = put_found (same x (name_of_put q)) q p (put_at ps x) all.0 (given_at ps x p all.1) e
+given_at (q ∷ ps) x p all e = put_found (same x q.name) q p (put_at ps x) all.0 (given_at ps x p all.1) e
 
 -- ---- lists of records
 
@@ -163,7 +163,7 @@ any_mapped f p (q ∷ rows) x r w e is pw = any_step (same x q.name) f p q r (re
 
 -- ---- records of the request
 
-module _ (q : Request) (pasts : List Past) (fine : IsFine q pasts) (stored : AreStored q.rows) (given : AllByRecursion IsGivenPut (puts_in q.ops q.guids)) where
+module _ (q : Request) (pasts : List Past) (fine : IsFine q pasts) (stored : AreStored q.rows) (given : AllByRecursion IsGivenPut (puts_in q.ops)) where
   -- all of a record's form but its tag, its share and its last stamp
   record IsBase (x : List ℕ) (r : Record) : Type 0 where
     pub name : IsName r.name
@@ -181,32 +181,32 @@ module _ (q : Request) (pasts : List Past) (fine : IsFine q pasts) (stored : Are
   kept_fields false x v there = let f = (stored x v there).fields in (f.0, f.1)
 
   -- a list that a put gives
-  taken_at : (x : List ℕ) (p : Putting) → put_at (puts_in q.ops q.guids) x ≡ Some p → IsTaken q.caller.key.owner p.draft
+  taken_at : (x : List ℕ) (p : NamedOp) → put_at (puts_in q.ops) x ≡ Some p → IsTaken q.caller.key.owner p.draft
   taken_at x p at = (checked q pasts fine x p at).listed
 
   -- what a put writes over what the caller sees
-  small_by : (o : Option Record) (x : List ℕ) (p : Putting) → put_at (puts_in q.ops q.guids) x ≡ Some p → record_at q.seen x ≡ o
-      → is_some_and (λ (r : Record). nat_lt most_record_size (size_of_record r)) (written_over (blank p) o) ≡ false
+  small_by : (o : Option Record) (x : List ℕ) (p : NamedOp) → put_at (puts_in q.ops) x ≡ Some p → record_at q.seen x ≡ o
+      → is_some_and (λ (r : Record). nat_lt most_record_size (size_of_record r)) (written_over p o) ≡ false
   small_by o x p at seen =
-      let name : x ≡ name_of_put p = same-true x (name_of_put p) (put-name (puts_in q.ops q.guids) x p at) in
-      ap (λ s. is_some_and (λ (r : Record). nat_lt most_record_size (size_of_record r)) (written_over (blank p) s)) (sym seen ∙ ap (record_at q.seen) name)
+      let name : x ≡ p.name = same-true x p.name (put-name (puts_in q.ops) x p at) in
+      ap (λ s. is_some_and (λ (r : Record). nat_lt most_record_size (size_of_record r)) (written_over p s)) (sym seen ∙ ap (record_at q.seen) name)
       ∙ (checked q pasts fine x p at).small
 
-  small_old : (x : List ℕ) (p : Putting) (v : Record) → put_at (puts_in q.ops q.guids) x ≡ Some p → record_at q.seen x ≡ Some v → changes_old p.kind ≡ true
+  small_old : (x : List ℕ) (p : NamedOp) (v : Record) → put_at (puts_in q.ops) x ≡ Some p → record_at q.seen x ≡ Some v → changes_old p.kind ≡ true
       → nat_lt most_record_size (size_of_record (changed_record p v)) ≡ false
   small_old x p v at seen changes =
-      ap (λ b. is_some_and (λ (r : Record). nat_lt most_record_size (size_of_record r)) (if b then Some (changed_record (blank p) v) else None)) (sym changes) ∙ small_by (Some v) x p at seen
+      ap (λ b. is_some_and (λ (r : Record). nat_lt most_record_size (size_of_record r)) (if b then Some (changed_record p v) else None)) (sym changes) ∙ small_by (Some v) x p at seen
 
-  small_new : (x : List ℕ) (p : Putting) → put_at (puts_in q.ops q.guids) x ≡ Some p → record_at q.seen x ≡ None → makes_new p.kind ≡ true → nat_lt most_record_size (size_of_record (new_record p)) ≡ false
+  small_new : (x : List ℕ) (p : NamedOp) → put_at (puts_in q.ops) x ≡ Some p → record_at q.seen x ≡ None → makes_new p.kind ≡ true → nat_lt most_record_size (size_of_record (new_record p)) ≡ false
   small_new x p at unseen makes =
-      ap (λ b. is_some_and (λ (r : Record). nat_lt most_record_size (size_of_record r)) (if b then Some (new_record (blank p)) else None)) (sym makes) ∙ small_by None x p at unseen
+      ap (λ b. is_some_and (λ (r : Record). nat_lt most_record_size (size_of_record r)) (if b then Some (new_record p) else None)) (sym makes) ∙ small_by None x p at unseen
 
-  old_base : (b : Bool) (x : List ℕ) (p : Putting) (v r : Record) → put_at (puts_in q.ops q.guids) x ≡ Some p → record_at q.seen x ≡ Some v → changes_old p.kind ≡ b
+  old_base : (b : Bool) (x : List ℕ) (p : NamedOp) (v r : Record) → put_at (puts_in q.ops) x ≡ Some p → record_at q.seen x ≡ Some v → changes_old p.kind ≡ b
       → option_map_or Some (if b then Some (changed_record p v) else None) (Some v) ≡ Some r → IsBase x r
   old_base true x p v r at seen changes e =
       let there = fine.part.part x v seen in
       let s = stored x v there in
-      let g = given_at (puts_in q.ops q.guids) x p given at in
+      let g = given_at (puts_in q.ops) x p given at in
       subst (IsBase x) (same_Some (changed_record p v) r e) (record {
         name = s.name;
         rtype = s.rtype;
@@ -222,16 +222,16 @@ module _ (q : Request) (pasts : List Past) (fine : IsFine q pasts) (stored : Are
   typed_from true b is e = e
   typed_from false b is e = absurd (both_ways false refl is)
 
-  new_base : (b : Bool) (x : List ℕ) (p : Putting) (r : Record) → put_at (puts_in q.ops q.guids) x ≡ Some p → record_at q.seen x ≡ None → makes_new p.kind ≡ b
+  new_base : (b : Bool) (x : List ℕ) (p : NamedOp) (r : Record) → put_at (puts_in q.ops) x ≡ Some p → record_at q.seen x ≡ None → makes_new p.kind ≡ b
       → option_map_or Some (if b then Some (new_record p) else None) None ≡ Some r → IsBase x r
   new_base true x p r at unseen makes e =
-      let g = given_at (puts_in q.ops q.guids) x p given at in
+      let g = given_at (puts_in q.ops) x p given at in
       let passed = checked q pasts fine x p at in
       let newness = is-new q pasts fine x p at unseen in
-      let typed = typed_from (is_new (ground q pasts) (blank p)) (is_none p.draft.rtype) newness passed.typed in
+      let typed = typed_from (is_new (ground q pasts) p) (is_none p.draft.rtype) newness passed.typed in
       let rooted : has_share_type p.draft ≡ true → (y : List ℕ) × (root_given p.draft ≡ Some y) × IsName y × IsGuid p.guid = λ h.
       let bare = typed_from (has_share_type p.draft) (is_none p.draft.for_root) h
-      (typed_from (is_new (ground q pasts) (blank p)) (has_share_type p.draft && is_none p.draft.for_root) newness (typed_from (makes_new p.kind) (is_new (ground q pasts) (blank p) && (has_share_type p.draft && is_none p.draft.for_root)) makes (grouped (makes_new p.kind) (is_new (ground q pasts) (blank p)) (has_share_type p.draft) (is_none p.draft.for_root) passed.rooted))) in
+      (typed_from (is_new (ground q pasts) p) (has_share_type p.draft && is_none p.draft.for_root) newness (typed_from (makes_new p.kind) (is_new (ground q pasts) p && (has_share_type p.draft && is_none p.draft.for_root)) makes (grouped (makes_new p.kind) (is_new (ground q pasts) p) (has_share_type p.draft) (is_none p.draft.for_root) passed.rooted))) in
       let f = root_form p.draft.for_root bare g.meant.root in
       (f.0, f.1, f.2, g.drawn f.3) in
       subst (IsBase x) (same_Some (new_record p) r e) (record {
@@ -250,14 +250,14 @@ module _ (q : Request) (pasts : List Past) (fine : IsFine q pasts) (stored : Are
       grouped false b c d h = refl
   new_base false x p r at unseen makes e = absurd (none-some None r refl e)
 
-  over_base : (i : Option Putting) (o : Option Record) (x : List ℕ) (r : Record) → put_at (puts_in q.ops q.guids) x ≡ i → record_at q.seen x ≡ o → put_over q.seen i o ≡ Some r → IsBase x r
+  over_base : (i : Option NamedOp) (o : Option Record) (x : List ℕ) (r : Record) → put_at (puts_in q.ops) x ≡ i → record_at q.seen x ≡ o → put_over q.seen i o ≡ Some r → IsBase x r
   over_base None None x r at seen e = absurd (none-some None r refl e)
   over_base None (Some v) x r at seen e = subst (IsBase x) (same_Some v r e) (zone_base x v (fine.part.part x v seen))
   over_base (Some p) None x r at seen e =
-      let name : x ≡ name_of_put p = same-true x (name_of_put p) (put-name (puts_in q.ops q.guids) x p at) in
+      let name : x ≡ p.name = same-true x p.name (put-name (puts_in q.ops) x p at) in
       new_base (makes_new p.kind) x p r at seen refl (ap (λ o. option_map_or Some (written_over p o) None) (sym (ap (record_at q.seen) (sym name) ∙ seen)) ∙ e)
   over_base (Some p) (Some v) x r at seen e =
-      let name : x ≡ name_of_put p = same-true x (name_of_put p) (put-name (puts_in q.ops q.guids) x p at) in
+      let name : x ≡ p.name = same-true x p.name (put-name (puts_in q.ops) x p at) in
       old_base (changes_old p.kind) x p v r at seen refl (ap (λ o. option_map_or Some (written_over p o) (Some v)) (sym (ap (record_at q.seen) (sym name) ∙ seen)) ∙ e)
 
   mark_base : (x : List ℕ) (r : Record) (share : Option (List ℕ)) → IsBase x r → IsBase x (record r { share = share })
@@ -266,7 +266,7 @@ module _ (q : Request) (pasts : List Past) (fine : IsFine q pasts) (stored : Are
   working_base : (x : List ℕ) (w : Record) → record_at (working q) x ≡ Some w → IsBase x w
   working_base x w is =
       let r = unmarked q pasts fine x w is in
-      subst (IsBase x) r.2 (mark_base x r.0 _ (over_base (put_at (puts_in q.ops q.guids) x) (record_at q.seen x) x r.0 refl refl (sym (found-puts q.seen q.ops q.guids x) ∙ r.1)))
+      subst (IsBase x) r.2 (mark_base x r.0 _ (over_base (put_at (puts_in q.ops) x) (record_at q.seen x) x r.0 refl refl (sym (found-puts q.seen q.ops x) ∙ r.1)))
 
   left_base : (b : Bool) (x : List ℕ) (r : Record) → IsBase x r → IsBase x (if b then record r { body = body_without q.caller.user r.body } else r)
   left_base true x r b = record { name = b.name; rtype = b.rtype; parent = b.parent; fields = b.fields; created = b.created; body = body-left r.rtype r.body q.caller.user b.body }
@@ -347,9 +347,9 @@ put_counted log c x is =
     ∙ ap (λ b. puts_at log c.key x + (0 + cond b 1 0)) is
     ∙ omega arith
 
-module _ (caller : Caller) (moment : ℕ) (log : List Commit) (ops : List Op) (guids : List (List ℕ)) where
+module _ (caller : Caller) (moment : ℕ) (log : List Commit) (ops : List NamedOp) where
   abbrev request : Request
-  request = request_at caller moment log ops guids
+  request = request_at caller moment log ops
 
   abbrev its_writes : List Write
   its_writes = writes request (removed request)
@@ -368,36 +368,34 @@ module _ (caller : Caller) (moment : ℕ) (log : List Commit) (ops : List Op) (g
       → AllByRecursion IsInForm (commits_by e)
   form_by true is key user in_range each few = tt
   form_by false is key user in_range each few = (
-    record { key = key; user = user; moment = in_range; act = record { some = (some_writes its_writes is, few.0); each = each; ordered = effects_in_order.ordered caller moment log ops guids } },
+    record { key = key; user = user; moment = in_range; act = record { some = (some_writes its_writes is, few.0); each = each; ordered = effects_in_order.ordered caller moment log ops (removed (request_at caller moment log ops)) } },
     tt,
   )
 
   fault_by : (b : Bool) → has_fault (judgement_at caller moment log ops) ≡ b → are_lawful [] log ≡ true → AllByRecursion IsInForm log → (zone_at log caller.key).there ≡ true → has_twice (roots_in ops) ≡ false
-      → AllByRecursion IsGivenPut (puts_in ops guids) → IsKey caller.key → IsName caller.user → moment < 2 ^ 64
+      → AllByRecursion IsGivenPut (puts_in ops) → IsKey caller.key → IsName caller.user → moment < 2 ^ 64
       → HaveRoom log caller.key (if b then [] else effect request) → AllByRecursion HasFewWrites (if b then [] else effect request)
       → AllByRecursion IsInForm (if b then [] else effect request)
   fault_by true judged lawful formed there roots given key user in_range room few = tt
   fault_by false judged lawful formed there roots given key user in_range room few =
-      let fine = is_fine caller moment log ops guids lawful there roots judged in
+      let fine = is_fine caller moment log ops lawful there roots judged in
       form_by (is_empty its_writes) refl key user in_range
       (writes-form request (name_history log caller.key ops) fine (zone-stored log caller.key formed) given user in_range (room_for (is_empty its_writes) refl room)) few
 
   -- what a request that is judged as one commits has the form of a commit
   pub form-as_one : are_lawful [] log ≡ true → AllByRecursion IsInForm log → (zone_at log caller.key).there ≡ true → has_twice (roots_in ops) ≡ false
-      → AllByRecursion IsGivenPut (puts_in ops guids) → IsKey caller.key → IsName caller.user → moment < 2 ^ 64
-      → HaveRoom log caller.key (effect_at caller moment log ops guids) → AllByRecursion HasFewWrites (effect_at caller moment log ops guids)
-      → AllByRecursion IsInForm (effect_at caller moment log ops guids)
+      → AllByRecursion IsGivenPut (puts_in ops) → IsKey caller.key → IsName caller.user → moment < 2 ^ 64
+      → HaveRoom log caller.key (effect_at caller moment log ops) → AllByRecursion HasFewWrites (effect_at caller moment log ops)
+      → AllByRecursion IsInForm (effect_at caller moment log ops)
   form-as_one lawful formed there roots given key user in_range room few =
       fault_by (has_fault (judgement_at caller moment log ops)) refl lawful formed there roots given key user in_range room few
 
 -- ---- operations one after another
 
-given_parts : (d : Bool) (op : Op) (ops : List Op) (guids : List (List ℕ)) (p : Putting) → is_deletion op.kind ≡ d
-    → AllByRecursion IsGivenPut (if d then puts_in ops guids else p ∷ puts_in ops (guids_left op guids))
-    → AllByRecursion IsGivenPut (if d then [] else p ∷ []) × AllByRecursion IsGivenPut (puts_in ops (guids_left op guids))
-given_parts true op ops guids p is all =
-    (tt, subst (λ gs. AllByRecursion IsGivenPut (puts_in ops gs)) (sym (ap (λ d. if not d && is_some op.draft.for_root then drop 1 guids else guids) is)) all)
-given_parts false op ops guids p is all = ((all.0, tt), all.1)
+given_parts : (d : Bool) (op : NamedOp) (ops : List NamedOp) → AllByRecursion IsGivenPut (if not d then op ∷ puts_in ops else puts_in ops)
+    → AllByRecursion IsGivenPut (if not d then op ∷ [] else []) × AllByRecursion IsGivenPut (puts_in ops)
+given_parts true op ops all = (tt, all)
+given_parts false op ops all = ((all.0, tt), all.1)
 
 every_part : {X : Type 0} (P : X → Type 0) (xs ys : List X) → AllByRecursion P (xs ++ ys) → AllByRecursion P xs × AllByRecursion P ys
 every_part P [] ys all = (tt, all)
@@ -414,35 +412,35 @@ room_parts log made rest key room = (
 )
 
 module _ (caller : Caller) (moment : ℕ) (key : IsKey caller.key) (user : IsName caller.user) (in_range : moment < 2 ^ 64) where
-  form_apart : (ops : List Op) (log : List Commit) (guids : List (List ℕ)) → are_lawful [] log ≡ true → AllByRecursion IsInForm log → (zone_at log caller.key).there ≡ true
-      → AllByRecursion IsGivenPut (puts_in ops guids) → HaveRoom log caller.key (modified_apart caller moment log ops guids).commits
-      → AllByRecursion HasFewWrites (modified_apart caller moment log ops guids).commits → AllByRecursion IsInForm (modified_apart caller moment log ops guids).commits
-  form_apart [] log guids lawful formed there given room few = tt
-  form_apart (op ∷ ops) log guids lawful formed there given room few =
-      let made = effect_at caller moment log (op ∷ []) guids in
-      let rest = (modified_apart caller moment (log ++ made) ops (guids_left op guids)).commits in
-      let puts = given_parts (is_deletion op.kind) op ops guids (record { kind = op.kind; draft = op.draft; guid = first_guid guids }) refl given in
+  form_apart : (ops : List NamedOp) (log : List Commit) → are_lawful [] log ≡ true → AllByRecursion IsInForm log → (zone_at log caller.key).there ≡ true
+      → AllByRecursion IsGivenPut (puts_in ops) → HaveRoom log caller.key (modified_apart caller moment log ops).commits
+      → AllByRecursion HasFewWrites (modified_apart caller moment log ops).commits → AllByRecursion IsInForm (modified_apart caller moment log ops).commits
+  form_apart [] log lawful formed there given room few = tt
+  form_apart (op ∷ ops) log lawful formed there given room few =
+      let made = effect_at caller moment log (op ∷ []) in
+      let rest = (modified_apart caller moment (log ++ made) ops).commits in
+      let puts = given_parts (is_deletion op.kind) op ops given in
       let rooms = room_parts log made rest caller.key room in
       let fews = every_part HasFewWrites made rest few in
-      let first = form-as_one caller moment log (op ∷ []) guids lawful formed there (one_root op) puts.0 key user in_range rooms.0 fews.0 in
+      let first = form-as_one caller moment log (op ∷ []) lawful formed there (one_root op) puts.0 key user in_range rooms.0 fews.0 in
       every-append IsInForm made rest first
-      (form_apart ops (log ++ made) (guids_left op guids)
-      (lawful-append [] log made lawful (lawful-effect caller moment log (op ∷ []) guids lawful there (one_root op)))
+      (form_apart ops (log ++ made)
+      (lawful-append [] log made lawful (lawful-effect caller moment log (op ∷ []) lawful there (one_root op)))
       (every-append IsInForm log made formed first)
-      (there-after caller moment log (op ∷ []) guids lawful there (one_root op)) puts.1 rooms.1 fews.1)
+      (there-after caller moment log (op ∷ []) lawful there (one_root op)) puts.1 rooms.1 fews.1)
 
-  form_request : (b : Bool) (log : List Commit) (ops : List Op) (guids : List (List ℕ)) → are_lawful [] log ≡ true → AllByRecursion IsInForm log → (zone_at log caller.key).there ≡ true → has_twice (roots_in ops) ≡ false
-      → AllByRecursion IsGivenPut (puts_in ops guids)
-      → HaveRoom log caller.key (if b then modified_as_one caller moment log ops guids else modified_apart caller moment log ops guids).commits
-      → AllByRecursion HasFewWrites (if b then modified_as_one caller moment log ops guids else modified_apart caller moment log ops guids).commits
-      → AllByRecursion IsInForm (if b then modified_as_one caller moment log ops guids else modified_apart caller moment log ops guids).commits
-  form_request true log ops guids lawful formed there roots given room few = form-as_one caller moment log ops guids lawful formed there roots given key user in_range room few
-  form_request false log ops guids lawful formed there roots given room few = form_apart ops log guids lawful formed there given room few
+  form_request : (b : Bool) (log : List Commit) (ops : List NamedOp) → are_lawful [] log ≡ true → AllByRecursion IsInForm log → (zone_at log caller.key).there ≡ true → has_twice (roots_in ops) ≡ false
+      → AllByRecursion IsGivenPut (puts_in ops)
+      → HaveRoom log caller.key (if b then modified_as_one caller moment log ops else modified_apart caller moment log ops).commits
+      → AllByRecursion HasFewWrites (if b then modified_as_one caller moment log ops else modified_apart caller moment log ops).commits
+      → AllByRecursion IsInForm (if b then modified_as_one caller moment log ops else modified_apart caller moment log ops).commits
+  form_request true log ops lawful formed there roots given room few = form-as_one caller moment log ops lawful formed there roots given key user in_range room few
+  form_request false log ops lawful formed there roots given room few = form_apart ops log lawful formed there given room few
 
 -- what a request commits has the form of a commit
 pub effects_form : EffectsAreInForm
 effects_form = record {
-  as_one = form-as_one;
-  requests = λ caller moment log atomic ops guids lawful formed there roots given key user in_range room few.
-      form_request caller moment key user in_range (atomic && not (is_default caller.key)) log ops guids lawful formed there roots given room few;
+  as_one = λ caller moment log ops lawful. form-as_one caller moment log ops (in_turn_back [] log lawful);
+  requests = λ caller moment log atomic ops lawful formed there roots given key user in_range room few.
+      form_request caller moment key user in_range (atomic && not (is_default caller.key)) log ops (in_turn_back [] log lawful) formed there roots given room few;
 }

@@ -9,7 +9,6 @@ use Rattle.ck_base.specs.Order.{is_before}
 use Rattle.name_rules.specs.Options.{is_some_and}
 use Rattle.name_rules.proofs.NameLemmas.{same-true, same-refl}
 use Rattle.record_model.specs.declared.records.Record.{Record}
-use Rattle.zone_model.specs.declared.operations.Op.{Op}
 use Rattle.zone_model.specs.declared.operations.Past.{Past}
 use Rattle.zone_model.specs.declared.outcomes.OpFault.{OpFault}
 use Rattle.zone_model.specs.declared.outcomes.Outcome.TheVariants.{Put as Answered, Deleted}
@@ -19,7 +18,7 @@ use Rattle.zone_model.specs.declared.commits.Commit.{Commit}
 use Rattle.zone_model.specs.Names.{same, is_in, is_shared, has_twice}
 use Rattle.zone_model.specs.Records.{record_at, is_there, names_in, is_share, IsAscending}
 use Rattle.zone_model.specs.Zones.{zone_at, written_name}
-use Rattle.zone_model.specs.Requests.{Caller, Putting, is_deletion, has_share_type, name_of_op, name_of_put, first_guid, makes_new, root_given, puts_in, guids_left, roots_in, names_deleted}
+use Rattle.zone_model.specs.Requests.{Caller, NamedOp, is_deletion, has_share_type, makes_new, root_given, puts_in, roots_in, names_deleted}
 use Rattle.zone_model.specs.Putting.{new_record}
 use Rattle.zone_model.specs.Working.{is_new_share_of, is_share_of, with_puts, mark_of}
 use Rattle.zone_model.specs.Grounds.{names_taken, grounds_of}
@@ -30,7 +29,7 @@ use Rattle.zone_model.specs.Judging.{faults_of, has_fault}
 use Rattle.zone_model.specs.Effect.{Request, body_without, working, is_put, is_left, after_leaving, after_puts, removed, stamp, stamped, is_unmarked, is_written, final, write_as, write_of, writes, commits_with, effect}
 use Rattle.zone_model.specs.Views.{view_of}
 use Rattle.zone_model.specs.Modifying.{done, outcome_of, request_at, judgement_at, effect_at, modified_as_one}
-use Rattle.zone_model.specs.Lawful.{are_lawful}
+use Rattle.zone_laws.specs.LawfulTests.{are_lawful}
 use Rattle.zone_laws.proofs.SharedLaws.{asked_permitted}
 use Rattle.zone_laws.specs.Answering.{writes_made, IsStamped, StampsAreSet, IsWritten, IsShownWritten, OutcomesAreWritten, IsAllowed, SharedWritesAreAllowed, AnyLeastSetWillDo}
 use Rattle.zone_laws.proofs.RecordLaws.{none-some, found-name, found-below, later_step}
@@ -39,12 +38,13 @@ use Rattle.zone_laws.proofs.AfterLaws.{ascending-working, write_named}
 use Rattle.zone_laws.proofs.PermissionLaws.{found-any}
 use Rattle.zone_laws.proofs.AnswerLaws.{all-refused}
 use Rattle.zone_laws.proofs.CascadeLaws.{least-same}
-use Rattle.zone_laws.proofs.WorkingLaws.{put_at, put_over, found-working, blank}
+use Rattle.zone_laws.proofs.WorkingLaws.{put_at, put_over, found-working}
 use Rattle.zone_laws.proofs.CoreLaws.{Core, core, share-core, share_of-core, new-root, changed_at, put-name}
 use Rattle.zone_laws.proofs.JudgeLaws.{there-found}
 use Rattle.zone_laws.proofs.KeptLaws.{ground, IsFine, any_put, checked, seen-in-working, new-in-working, after_is}
 use Rattle.zone_laws.proofs.ParentLaws.{after_in_order}
 use Rattle.zone_laws.proofs.LawfulLaws.{is_fine}
+use Rattle.zone_laws.proofs.TestLaws.{in_turn_back}
 
 -- ---- small steps
 
@@ -63,8 +63,8 @@ unseen_of : (rows : List Record) (y : List ℕ) (o : Option Record) → record_a
 unseen_of rows y None is e = is
 unseen_of rows y (Some r) is e = absurd (both_ways false refl (sym (ap not (there-found rows y ∙ ap is_some is)) ∙ e))
 
-found_put_step : (s : Bool) (p : Putting) (ps : List Putting) (x : List ℕ) → (list_any (λ (t : Putting). same x (name_of_put t)) ps ≡ true → (q : Putting) × (put_at ps x ≡ Some q))
-    → (s || list_any (λ (t : Putting). same x (name_of_put t)) ps) ≡ true → (q : Putting) × (cond s (Some p) (put_at ps x) ≡ Some q)
+found_put_step : (s : Bool) (p : NamedOp) (ps : List NamedOp) (x : List ℕ) → (list_any (λ (t : NamedOp). same x t.name) ps ≡ true → (q : NamedOp) × (put_at ps x ≡ Some q))
+    → (s || list_any (λ (t : NamedOp). same x t.name) ps) ≡ true → (q : NamedOp) × (cond s (Some p) (put_at ps x) ≡ Some q)
 found_put_step true p ps x rest e = (p, refl)
 found_put_step false p ps x rest e = rest e
 
@@ -73,7 +73,7 @@ typed_by true o x e = refl
 typed_by false o x e = e
 
 -- a new share has the type of shares
-typed : (x : List ℕ) (s : Record) (p : Putting) → core s ≡ core (new_record p) → is_share_of x s ≡ true → has_share_type p.draft ≡ true
+typed : (x : List ℕ) (s : Record) (p : NamedOp) → core s ≡ core (new_record p) → is_share_of x s ≡ true → has_share_type p.draft ≡ true
 typed x s p is e = typed_by (has_share_type p.draft) (root_given p.draft) x
     (ap (is_some_and (same x)) (sym (ap (λ (c : Core). c.root) is ∙ new-root p)) ∙ sym (share_of-core x s) ∙ e)
 
@@ -135,10 +135,10 @@ module _ (q : Request) (pasts : List Past) (fine : IsFine q pasts) where
   -- the view's records are in the working view with their first stamp
   working_created : (x : List ℕ) (v w : Record) → record_at q.seen x ≡ Some v → record_at (working q) x ≡ Some w → w.created ≡ v.created
   working_created x v w seen is =
-      let puts = puts_in q.ops q.guids in
+      let puts = puts_in q.ops in
       let c = changed_at q.seen puts x (put_at puts x) v refl seen in
-      let mark : Record → Record = λ (r : Record). record r { share = mark_of q.caller.scope q.seen q.ops (with_puts q.seen q.ops q.guids) r } in
-      let one : mark c.row ≡ w = same_Some (mark c.row) w (sym (found-working q.seen q.caller.scope q.ops q.guids x ∙ ap (λ o. option_map mark (put_over q.seen (put_at puts x) o)) seen ∙ ap (option_map mark) c.is) ∙ is) in
+      let mark : Record → Record = λ (r : Record). record r { share = mark_of q.caller.scope q.seen q.ops (with_puts q.seen q.ops) r } in
+      let one : mark c.row ≡ w = same_Some (mark c.row) w (sym (found-working q.seen q.caller.scope q.ops x ∙ ap (λ o. option_map mark (put_over q.seen (put_at puts x) o)) seen ∙ ap (option_map mark) c.is) ∙ is) in
       ap (λ (r : Record). r.created) (sym one) ∙ c.created
 
   over_created : (o : Option Record) (x : List ℕ) (z w : Record) → record_at q.seen x ≡ o → record_at (working q) x ≡ Some w → record_at q.rows x ≡ Some z → w.created ≡ z.created
@@ -175,20 +175,20 @@ module _ (q : Request) (pasts : List Past) (fine : IsFine q pasts) where
   -- ---- what is shown
 
   -- what is put in the shared scope is no share
-  left_share : (x : List ℕ) (p : Putting) (r v : Record) → put_at (puts_in q.ops q.guids) x ≡ Some p → record_at (working q) x ≡ Some r → record_at q.seen x ≡ Some v → is_shared q.caller.scope ≡ true → is_share r ≡ true → ⊥
+  left_share : (x : List ℕ) (p : NamedOp) (r v : Record) → put_at (puts_in q.ops) x ≡ Some p → record_at (working q) x ≡ Some r → record_at q.seen x ≡ Some v → is_shared q.caller.scope ≡ true → is_share r ≡ true → ⊥
   left_share x p r v at is seen shared share =
       let g = ground q pasts in
-      let name : x ≡ name_of_put p = same-true x (name_of_put p) (put-name (puts_in q.ops q.guids) x p at) in
+      let name : x ≡ p.name = same-true x p.name (put-name (puts_in q.ops) x p at) in
       let old : is_share v ≡ true = share-core v ∙ ap is_some (sym (seen-in-working q pasts fine x v r seen is).root) ∙ sym (share-core r) ∙ share in
-      let was : is_old_share g (blank p) ≡ true = ap (λ y. is_some_and is_share (record_at q.seen y)) (sym name) ∙ ap (is_some_and is_share) seen ∙ old in
-      both_ways (is_denied g (blank p)) (checked q pasts fine x p at).permitted
-      (and_from (is_shared q.caller.scope) _ shared (or_left (is_of_share g (blank p)) _ (or_right (begins g (blank p)) (is_old_share g (blank p)) was)))
+      let was : is_old_share g p ≡ true = ap (λ y. is_some_and is_share (record_at q.seen y)) (sym name) ∙ ap (is_some_and is_share) seen ∙ old in
+      both_ways (is_denied g p) (checked q pasts fine x p at).permitted
+      (and_from (is_shared q.caller.scope) _ shared (or_left (is_of_share g p) _ (or_right (begins g p) (is_old_share g p) was)))
 
   seen_by : (o : Option Record) (y : List ℕ) → record_at q.seen y ≡ o → is_there q.seen y ≡ true → (v : Record) × (record_at q.seen y ≡ Some v)
   seen_by None y is e = absurd (both_ways false refl (sym (there-found q.seen y ∙ ap is_some is) ∙ e))
   seen_by (Some v) y is e = (v, is)
 
-  unleft : (x : List ℕ) (p : Putting) (r : Record) → put_at (puts_in q.ops q.guids) x ≡ Some p → record_at (working q) x ≡ Some r → is_left q r ≡ false
+  unleft : (x : List ℕ) (p : NamedOp) (r : Record) → put_at (puts_in q.ops) x ≡ Some p → record_at (working q) x ≡ Some r → is_left q r ≡ false
   unleft x p r at is = false_from_ne_true (is_left q r) (λ e.
       let a = and_parts (is_shared q.caller.scope) _ e in
       let b = and_parts (is_in (names_deleted q.ops) r.name) _ a.1 in
@@ -201,10 +201,10 @@ module _ (q : Request) (pasts : List Past) (fine : IsFine q pasts) where
   shown_by true r e = record { write = PutRemove r.name; found = e; is = refl }
   shown_by false r e = record { write = Put (final q (removed q) r); found = e; is = refl }
 
-  pub shown_written : (x : List ℕ) (p : Putting) (r : Record) → put_at (puts_in q.ops q.guids) x ≡ Some p → record_at (working q) x ≡ Some r → IsWritten (writes q (removed q)) (stamped q r)
+  pub shown_written : (x : List ℕ) (p : NamedOp) (r : Record) → put_at (puts_in q.ops) x ≡ Some p → record_at (working q) x ≡ Some r → IsWritten (writes q (removed q)) (stamped q r)
   shown_written x p r at is =
       let name : x ≡ r.name = same-true x r.name (found-name (working q) x r is) in
-      let put : is_put q x ≡ true = or_left (list_any (λ (t : Putting). same x (name_of_put t)) (puts_in q.ops q.guids)) (list_any (is_new_share_of q.seen x) (working q)) (any_put (puts_in q.ops q.guids) x p at) in
+      let put : is_put q x ≡ true = or_left (list_any (λ (t : NamedOp). same x t.name) (puts_in q.ops)) (list_any (is_new_share_of q.seen x) (working q)) (any_put (puts_in q.ops) x p at) in
       let there : record_at (after_puts q) x ≡ Some r = after_is q pasts fine true (Some r) (record_at q.rows x) x put is refl
       ∙ ap (λ b. Some (if b then record r { body = body_without q.caller.user r.body } else r)) (unleft x p r at is) in
       let found = found_write (write_of q (removed q)) (write_named q (removed q)) (after_puts q) x r (after_in_order q pasts fine) there in
@@ -220,40 +220,40 @@ module _ (q : Request) (pasts : List Past) (fine : IsFine q pasts) where
       let unseen : record_at q.seen s.name ≡ None = unseen_of q.seen s.name (record_at q.seen s.name) refl parts.1 in
       let new = new-in-working q pasts fine s.name s unseen at in
       let g = ground q pasts in
-      let name : s.name ≡ name_of_put new.put = same-true s.name (name_of_put new.put) (put-name (puts_in q.ops q.guids) s.name new.put new.at) in
-      let missing : not (is_there q.seen (name_of_put new.put)) ≡ true = subst (λ y. not (is_there q.seen y) ≡ true) name parts.1 in
-      let begun : begins g (blank new.put) ≡ true = and_from (makes_new new.put.kind) _ new.makes (and_from (not (is_there q.seen (name_of_put new.put))) _ missing (typed x s new.put new.is parts.0)) in
-      both_ways (is_denied g (blank new.put)) (checked q pasts fine s.name new.put new.at).permitted
-      (and_from (is_shared q.caller.scope) _ shared (or_left (is_of_share g (blank new.put)) _ (or_left (begins g (blank new.put)) (is_old_share g (blank new.put)) begun)))
+      let name : s.name ≡ new.put.name = same-true s.name new.put.name (put-name (puts_in q.ops) s.name new.put new.at) in
+      let missing : not (is_there q.seen new.put.name) ≡ true = subst (λ y. not (is_there q.seen y) ≡ true) name parts.1 in
+      let begun : begins g new.put ≡ true = and_from (makes_new new.put.kind) _ new.makes (and_from (not (is_there q.seen new.put.name)) _ missing (typed x s new.put new.is parts.0)) in
+      both_ways (is_denied g new.put) (checked q pasts fine s.name new.put new.at).permitted
+      (and_from (is_shared q.caller.scope) _ shared (or_left (is_of_share g new.put) _ (or_left (begins g new.put) (is_old_share g new.put) begun)))
 
   unmarked_by_new : is_shared q.caller.scope ≡ true → (x : List ℕ) → list_any (is_new_share_of q.seen x) (working q) ≡ true → ⊥
   unmarked_by_new shared x e =
       let s = found-any (is_new_share_of q.seen x) (working q) (ascending-working q fine.seen_in_order) e in
       no_new_share shared s.0 x s.1 s.2
 
-  allowed_by : (goes : Bool) (a : Record) (w : Write) → is_shared q.caller.scope ≡ true → is_in (removed q) a.name ≡ goes → (written : Bool) → is_written q (removed q) a ≡ written → write_by q (removed q) goes written a ≡ Some w → IsAllowed q w
-  allowed_by true a w shared gone true is e = subst (IsAllowed q) (same_Some (PutRemove a.name) w e) gone
-  allowed_by true a w shared gone false is e = subst (IsAllowed q) (same_Some (Remove a.name) w e) gone
+  allowed_by : (goes : Bool) (a : Record) (w : Write) → is_shared q.caller.scope ≡ true → is_in (removed q) a.name ≡ goes → (written : Bool) → is_written q (removed q) a ≡ written → write_by q (removed q) goes written a ≡ Some w → IsAllowed q (removed q) w
+  allowed_by true a w shared gone true is e = subst (IsAllowed q (removed q)) (same_Some (PutRemove a.name) w e) gone
+  allowed_by true a w shared gone false is e = subst (IsAllowed q (removed q)) (same_Some (Remove a.name) w e) gone
   allowed_by false a w shared gone false is e = absurd (none_written w e)
-  allowed_by false a w shared gone true is e = subst (IsAllowed q) (same_Some (Put (final q (removed q) a)) w e) (⊎_elim
+  allowed_by false a w shared gone true is e = subst (IsAllowed q (removed q)) (same_Some (Put (final q (removed q) a)) w e) (⊎_elim
       (λ (h : is_put q a.name ≡ true). ⊎_elim
-      (λ (i : list_any (λ (p : Putting). same a.name (name_of_put p)) (puts_in q.ops q.guids) ≡ true). inl i)
+      (λ (i : list_any (λ (p : NamedOp). same a.name p.name) (puts_in q.ops) ≡ true). inl i)
       (λ (i : list_any (is_new_share_of q.seen a.name) (working q) ≡ true). absurd (unmarked_by_new shared a.name i))
-      (or_cases (list_any (λ (p : Putting). same a.name (name_of_put p)) (puts_in q.ops q.guids)) (list_any (is_new_share_of q.seen a.name) (working q)) h))
+      (or_cases (list_any (λ (p : NamedOp). same a.name p.name) (puts_in q.ops)) (list_any (is_new_share_of q.seen a.name) (working q)) h))
       (λ (h : (is_left q a || is_unmarked q (removed q) a) ≡ true). ⊎_elim
       (λ (i : is_left q a ≡ true). inr (inl i))
       (λ (i : is_unmarked q (removed q) a ≡ true). inr (inr (and_parts (not (is_in (removed q) a.name)) _ i).1))
       (or_cases (is_left q a) (is_unmarked q (removed q) a) h))
       (or_cases (is_put q a.name) (is_left q a || is_unmarked q (removed q) a) is))
 
-  pub all_allowed : is_shared q.caller.scope ≡ true → AllByRecursion (IsAllowed q) (writes q (removed q))
-  all_allowed shared = all_written (IsAllowed q) (write_of q (removed q)) (after_puts q) (after_in_order q pasts fine)
+  pub all_allowed : is_shared q.caller.scope ≡ true → AllByRecursion (IsAllowed q (removed q)) (writes q (removed q))
+  all_allowed shared = all_written (IsAllowed q (removed q)) (write_of q (removed q)) (after_puts q) (after_in_order q pasts fine)
       (λ x a w at e. allowed_by (is_in (removed q) a.name) a w shared refl (is_written q (removed q) a) refl e)
 
 -- a name that some put has
-pub found_put : (ps : List Putting) (x : List ℕ) → list_any (λ (t : Putting). same x (name_of_put t)) ps ≡ true → (p : Putting) × (put_at ps x ≡ Some p)
+pub found_put : (ps : List NamedOp) (x : List ℕ) → list_any (λ (t : NamedOp). same x t.name) ps ≡ true → (p : NamedOp) × (put_at ps x ≡ Some p)
 found_put [] x e = absurd (both_ways false refl e)
-found_put (p ∷ ps) x e = found_put_step (same x (name_of_put p)) p ps x (found_put ps x) e
+found_put (p ∷ ps) x e = found_put_step (same x p.name) p ps x (found_put ps x) e
 
 -- ---- at a log
 
@@ -262,81 +262,75 @@ pub made_writes : (q : Request) (ws : List Write) → writes_made (commits_with 
 made_writes q [] = refl
 made_writes q (w ∷ ws) = append-nil (w ∷ ws)
 
-module _ (caller : Caller) (moment : ℕ) (log : List Commit) (ops : List Op) (guids : List (List ℕ))
+module _ (caller : Caller) (moment : ℕ) (log : List Commit) (ops : List NamedOp)
     (lawful : are_lawful [] log ≡ true) (there : (zone_at log caller.key).there ≡ true) (roots : has_twice (roots_in ops) ≡ false) where
   abbrev its_request : Request
-  its_request = request_at caller moment log ops guids
+  its_request = request_at caller moment log ops
 
   its_writes : (P : Write → Type 0) → ((judged : has_fault (judgement_at caller moment log ops) ≡ false) → AllByRecursion P (writes its_request (removed its_request)))
       → (b : Bool) → has_fault (judgement_at caller moment log ops) ≡ b → AllByRecursion P (writes_made (if b then [] else effect its_request))
   its_writes P each true judged = tt
   its_writes P each false judged = subst (AllByRecursion P) (sym (made_writes its_request (writes its_request (removed its_request)))) (each judged)
 
-  stamps_at : AllByRecursion (IsStamped (zone_at log caller.key).rows (record { moment = moment; user = caller.user })) (writes_made (effect_at caller moment log ops guids))
-  stamps_at = its_writes (IsStamped (zone_at log caller.key).rows (stamp its_request)) (λ judged. all_stamped its_request _ (is_fine caller moment log ops guids lawful there roots judged)) (has_fault (judgement_at caller moment log ops)) refl
+  stamps_at : AllByRecursion (IsStamped (zone_at log caller.key).rows (record { moment = moment; user = caller.user })) (writes_made (effect_at caller moment log ops))
+  stamps_at = its_writes (IsStamped (zone_at log caller.key).rows (stamp its_request)) (λ judged. all_stamped its_request _ (is_fine caller moment log ops lawful there roots judged)) (has_fault (judgement_at caller moment log ops)) refl
 
-  allowed_at : is_shared caller.scope ≡ true → AllByRecursion (IsAllowed its_request) (writes_made (effect_at caller moment log ops guids))
-  allowed_at shared = its_writes (IsAllowed its_request) (λ judged. all_allowed its_request _ (is_fine caller moment log ops guids lawful there roots judged) shared) (has_fault (judgement_at caller moment log ops)) refl
+  allowed_at : is_shared caller.scope ≡ true → AllByRecursion (IsAllowed its_request (removed its_request)) (writes_made (effect_at caller moment log ops))
+  allowed_at shared = its_writes (IsAllowed its_request (removed its_request)) (λ judged. all_allowed its_request _ (is_fine caller moment log ops lawful there roots judged) shared) (has_fault (judgement_at caller moment log ops)) refl
 
   -- outcomes
 
-  abbrev IsOffered : List Op → List (List ℕ) → Type 0
-  IsOffered some gs = (x : List ℕ) → list_any (λ (t : Putting). same x (name_of_put t)) (puts_in some gs) ≡ true → list_any (λ (t : Putting). same x (name_of_put t)) (puts_in ops guids) ≡ true
+  abbrev IsOffered : List NamedOp → Type 0
+  IsOffered some = (x : List ℕ) → list_any (λ (t : NamedOp). same x t.name) (puts_in some) ≡ true → list_any (λ (t : NamedOp). same x t.name) (puts_in ops) ≡ true
 
-  done_shown : (judged : has_fault (judgement_at caller moment log ops) ≡ false) (op : Op) (d : Bool) → (d ≡ false → list_any (λ (t : Putting). same (name_of_op op) (name_of_put t)) (puts_in ops guids) ≡ true)
-      → (o : Option Record) → record_at (working its_request) (name_of_op op) ≡ o
-      → IsShownWritten (writes its_request (removed its_request)) (option_map_or (λ r. Answered (stamped its_request r)) (if d then None else o) (Deleted (name_of_op op)))
+  done_shown : (judged : has_fault (judgement_at caller moment log ops) ≡ false) (op : NamedOp) (d : Bool) → (d ≡ false → list_any (λ (t : NamedOp). same op.name t.name) (puts_in ops) ≡ true)
+      → (o : Option Record) → record_at (working its_request) op.name ≡ o
+      → IsShownWritten (writes its_request (removed its_request)) (option_map_or (λ r. Answered (stamped its_request r)) (if d then None else o) (Deleted op.name))
   done_shown judged op true offered o is = tt
   done_shown judged op false offered None is = tt
   done_shown judged op false offered (Some r) is =
-      let p = found_put (puts_in ops guids) (name_of_op op) (offered refl) in
-      shown_written its_request _ (is_fine caller moment log ops guids lawful there roots judged) (name_of_op op) p.0 r p.1 is
+      let p = found_put (puts_in ops) op.name (offered refl) in
+      shown_written its_request _ (is_fine caller moment log ops lawful there roots judged) op.name p.0 r p.1 is
 
-  shown_step : (d : Bool) (op : Op) (some : List Op) (gs : List (List ℕ)) → is_deletion op.kind ≡ d
-      → ((x : List ℕ) → list_any (λ (t : Putting). same x (name_of_put t)) (if d then puts_in some gs else record { kind = op.kind; draft = op.draft; guid = first_guid gs } ∷ puts_in some (guids_left op gs)) ≡ true
-      → list_any (λ (t : Putting). same x (name_of_put t)) (puts_in ops guids) ≡ true)
-      → ((left : List (List ℕ)) → IsOffered some left → AllByRecursion (IsShownWritten (writes its_request (removed its_request))) (map (done its_request) some))
+  shown_step : (d : Bool) (op : NamedOp) (some : List NamedOp) → is_deletion op.kind ≡ d
+      → ((x : List ℕ) → list_any (λ (t : NamedOp). same x t.name) (if not d then op ∷ puts_in some else puts_in some) ≡ true
+      → list_any (λ (t : NamedOp). same x t.name) (puts_in ops) ≡ true)
+      → (IsOffered some → AllByRecursion (IsShownWritten (writes its_request (removed its_request))) (map (done its_request) some))
       → (judged : has_fault (judgement_at caller moment log ops) ≡ false)
       → AllByRecursion (IsShownWritten (writes its_request (removed its_request))) (map (done its_request) (op ∷ some))
-  shown_step true op some gs is offered rest judged =
-      (done_shown judged op (is_deletion op.kind) (λ e. absurd (both_ways (is_deletion op.kind) e is)) (record_at (working its_request) (name_of_op op)) refl, rest gs offered)
-  shown_step false op some gs is offered rest judged = (
-    done_shown judged op (is_deletion op.kind) (λ e. offered (name_of_op op) (or_left (same (name_of_op op) (name_of_op op)) _ (same-refl (name_of_op op)))) (record_at (working its_request) (name_of_op op)) refl,
-    rest (guids_left op gs) (λ x i. offered x (or_right (same x (name_of_op op)) _ i)),
+  shown_step true op some is offered rest judged =
+      (done_shown judged op (is_deletion op.kind) (λ e. absurd (both_ways (is_deletion op.kind) e is)) (record_at (working its_request) op.name) refl, rest offered)
+  shown_step false op some is offered rest judged = (
+    done_shown judged op (is_deletion op.kind) (λ e. offered op.name (or_left (same op.name op.name) _ (same-refl op.name))) (record_at (working its_request) op.name) refl,
+    rest (λ x i. offered x (or_right (same x op.name) _ i)),
   )
 
-  all_done : has_fault (judgement_at caller moment log ops) ≡ false → (some : List Op) (gs : List (List ℕ)) → IsOffered some gs → AllByRecursion (IsShownWritten (writes its_request (removed its_request))) (map (done its_request) some)
-  all_done judged [] gs offered = tt
-  all_done judged (op ∷ some) gs offered = shown_step (is_deletion op.kind) op some gs refl offered (λ left within. all_done judged some left within) judged
+  all_done : has_fault (judgement_at caller moment log ops) ≡ false → (some : List NamedOp) → IsOffered some → AllByRecursion (IsShownWritten (writes its_request (removed its_request))) (map (done its_request) some)
+  all_done judged [] offered = tt
+  all_done judged (op ∷ some) offered = shown_step (is_deletion op.kind) op some refl offered (λ within. all_done judged some within) judged
 
-  shown_zip : (ws : List Write) (some : List Op) (faults : List (Option OpFault)) → AllByRecursion (IsShownWritten ws) (map (done its_request) some) → AllByRecursion (IsShownWritten ws) (map (outcome_of its_request) (zip some faults))
+  shown_zip : (ws : List Write) (some : List NamedOp) (faults : List (Option OpFault)) → AllByRecursion (IsShownWritten ws) (map (done its_request) some) → AllByRecursion (IsShownWritten ws) (map (outcome_of its_request) (zip some faults))
   shown_zip ws [] faults all = tt
   shown_zip ws (op ∷ some) [] all = tt
   shown_zip ws (op ∷ some) (None ∷ faults) all = (all.0, shown_zip ws some faults all.1)
   shown_zip ws (op ∷ some) (Some fault ∷ faults) all = (tt, shown_zip ws some faults all.1)
 
-  refused_zip : (ws : List Write) (some : List Op) (faults : List (Option OpFault)) → list_all is_some faults ≡ true → AllByRecursion (IsShownWritten ws) (map (outcome_of its_request) (zip some faults))
+  refused_zip : (ws : List Write) (some : List NamedOp) (faults : List (Option OpFault)) → list_all is_some faults ≡ true → AllByRecursion (IsShownWritten ws) (map (outcome_of its_request) (zip some faults))
   refused_zip ws [] faults all = tt
   refused_zip ws (op ∷ some) [] all = tt
   refused_zip ws (op ∷ some) (None ∷ faults) all = absurd (both_ways false refl all)
   refused_zip ws (op ∷ some) (Some fault ∷ faults) all = (tt, refused_zip ws some faults all)
 
-  shown_at : (b : Bool) → has_fault (judgement_at caller moment log ops) ≡ b → AllByRecursion (IsShownWritten (writes_made (if b then [] else effect its_request))) (modified_as_one caller moment log ops guids).outcomes
+  shown_at : (b : Bool) → has_fault (judgement_at caller moment log ops) ≡ b → AllByRecursion (IsShownWritten (writes_made (if b then [] else effect its_request))) (modified_as_one caller moment log ops).outcomes
   shown_at true judged = refused_zip [] ops (judgement_at caller moment log ops) (all-refused (faults_of (grounds_of caller (name_history log caller.key ops) (view_of log caller.user caller.scope caller.key).rows ops) ops) judged)
-  shown_at false judged = subst (λ ws. AllByRecursion (IsShownWritten ws) (modified_as_one caller moment log ops guids).outcomes) (sym (made_writes its_request (writes its_request (removed its_request))))
-      (shown_zip (writes its_request (removed its_request)) ops (judgement_at caller moment log ops) (all_done judged ops guids (λ x i. i)))
+  shown_at false judged = subst (λ ws. AllByRecursion (IsShownWritten ws) (modified_as_one caller moment log ops).outcomes) (sym (made_writes its_request (writes its_request (removed its_request))))
+      (shown_zip (writes its_request (removed its_request)) ops (judgement_at caller moment log ops) (all_done judged ops (λ x i. i)))
 
 pub stamps_set : StampsAreSet
-stamps_set caller moment log ops guids lawful there roots = stamps_at caller moment log ops guids lawful there roots
+stamps_set caller moment log ops lawful there roots = stamps_at caller moment log ops (in_turn_back [] log lawful) there roots
 
 pub outcomes_written : OutcomesAreWritten
-outcomes_written caller moment log ops guids lawful there roots = shown_at caller moment log ops guids lawful there roots (has_fault (judgement_at caller moment log ops)) refl
-
-pub shared_writes_allowed : SharedWritesAreAllowed
-shared_writes_allowed = record {
-  writes = λ caller moment log ops guids shared lawful there roots. allowed_at caller moment log ops guids lawful there roots shared;
-  asked = asked_permitted;
-}
+outcomes_written caller moment log ops lawful there roots = shown_at caller moment log ops (in_turn_back [] log lawful) there roots (has_fault (judgement_at caller moment log ops)) refl
 
 -- ---- any least set
 
@@ -345,6 +339,31 @@ alike true b there back = sym (there refl)
 alike false true there back = back refl
 alike false false there back = refl
 
+least_is : (q : Request) (gone : List (List ℕ)) → IsLeast (after_puts q) (names_taken q.caller q.seen q.ops) gone → (x : List ℕ) → is_in gone x ≡ is_in (removed q) x
+least_is q gone least x =
+    let both = least-same (after_puts q) (names_taken q.caller q.seen q.ops) gone least x in
+    alike (is_in gone x) (is_in (removed q) x) both.0 both.1
+
+module _ (q : Request) (gone : List (List ℕ)) (is : (x : List ℕ) → is_in gone x ≡ is_in (removed q) x) where
+  allowed_one : (w : Write) → IsAllowed q (removed q) w → IsAllowed q gone w
+  allowed_one (Put r) (inl asked) = inl asked
+  allowed_one (Put r) (inr (inl left)) = inr (inl left)
+  allowed_one (Put r) (inr (inr marked)) = inr (inr ((λ i. list_any (λ (s : Record). is_share_of r.name s && is s.name i) (after_puts q)) ∙ marked))
+  allowed_one (Remove x) e = is x ∙ e
+  allowed_one (PutRemove x) e = is x ∙ e
+
+  allowed_all : (ws : List Write) → AllByRecursion (IsAllowed q (removed q)) ws → AllByRecursion (IsAllowed q gone) ws
+  allowed_all [] all = tt
+  allowed_all (w ∷ ws) all = (allowed_one w all.0, allowed_all ws all.1)
+
+pub shared_writes_allowed : SharedWritesAreAllowed
+shared_writes_allowed = record {
+  writes = λ caller moment log ops shared lawful there roots gone least.
+      let q = request_at caller moment log ops in
+      allowed_all q gone (least_is q gone least) (writes_made (effect_at caller moment log ops)) (allowed_at caller moment log ops (in_turn_back [] log lawful) there roots shared);
+  asked = asked_permitted;
+}
+
 writes_alike : (q : Request) (some gone : List (List ℕ)) → ((x : List ℕ) → is_in some x ≡ is_in gone x) → writes q some ≡ writes q gone
 writes_alike q some gone is i = filter_map (λ (r : Record).
     let unmarked : Bool = not (is r.name i) && list_any (λ (s : Record). is_share_of r.name s && is s.name i) (after_puts q) in
@@ -352,9 +371,7 @@ writes_alike q some gone is i = filter_map (λ (r : Record).
     write_as (is r.name i) written (record (stamped q r) { share = if unmarked then None else r.share })) (after_puts q)
 
 least_writes : (q : Request) (gone : List (List ℕ)) → IsLeast (after_puts q) (names_taken q.caller q.seen q.ops) gone → writes q gone ≡ writes q (removed q)
-least_writes q gone least = writes_alike q gone (removed q) (λ x.
-    let both = least-same (after_puts q) (names_taken q.caller q.seen q.ops) gone least x in
-    alike (is_in gone x) (is_in (removed q) x) both.0 both.1)
+least_writes q gone least = writes_alike q gone (removed q) (least_is q gone least)
 
 pub any_least : AnyLeastSetWillDo
 any_least q gone least = ap (commits_with q) (least_writes q gone least)

@@ -1,6 +1,6 @@
 -- The laws of the rules.
-use Rattle.std.specs.Prelude.{◌≡◌, find, Some, None, ◌<◌, ◌≤◌, ◌+◌, ◌^◌, ℕ, suc, length, map, is_some, Bool, true, false, List, [], ◌∷◌, ◌++◌, drop, fold, zip, Option, option_and_then, ◌⊎◌, if◌then◌else◌}
-use Rattle.std.specs.List.{list_any, list_all, AllByRecursion}
+use Rattle.std.specs.Prelude.{◌≡◌, ⊤, find, Some, None, ◌<◌, ◌≤◌, ◌+◌, ◌^◌, ℕ, suc, length, map, is_some, Bool, true, false, List, [], ◌∷◌, ◌++◌, drop, fold, zip, Option, option_and_then, ◌⊎◌, if◌then◌else◌}
+use Rattle.std.specs.List.{list_any, AllByRecursion}
 use Rattle.ck_base.specs.Names.{IsName}
 use Rattle.ck_base.specs.Guids.{IsGuid}
 use Rattle.record_model.specs.DraftForms.{IsMeantDraft}
@@ -15,7 +15,6 @@ use Rattle.zone_model.specs.declared.commits.Write.{Write}
 use Rattle.zone_model.specs.declared.commits.Act.{Act}
 use Rattle.zone_model.specs.declared.commits.Act.TheVariants.{Writes, MakeZone, DropZone, SetSubscription, DropSubscription}
 use Rattle.zone_model.specs.declared.commits.Commit.{Commit}
-use Rattle.zone_model.specs.declared.operations.Op.{Op}
 use Rattle.zone_model.specs.declared.operations.Past.{Past}
 use Rattle.zone_model.specs.declared.outcomes.OpFault.{OpFault}
 use Rattle.zone_model.specs.declared.outcomes.OpFault.TheVariants.{Conflict}
@@ -36,18 +35,19 @@ use Rattle.zone_laws.specs.Copies.{Copy, IsInStep, fold_page}
 use Rattle.zone_model.specs.ZoneEntries.{is_noticed, zone_entries, zone_page}
 use Rattle.zone_model.specs.ZoneFeed.{feed_page}
 use Rattle.zone_model.specs.Cascade.{IsLeast, removed_names}
-use Rattle.zone_model.specs.Requests.{Caller, Putting, is_deletion, is_forced, begins_share, new_parent, name_of_op, name_of_put, root_given, root_tag_given, puts_in, roots_in}
+use Rattle.zone_model.specs.Requests.{Caller, NamedOp, is_deletion, is_forced, begins_share, new_parent, root_given, root_tag_given, puts_in, roots_in}
 use Rattle.zone_model.specs.Grounds.{Grounds, grounds_of, is_seen, is_stale, is_writable}
 use Rattle.zone_model.specs.Judging.{judgement}
 use Rattle.zone_model.specs.Effect.{Request, removed, writes}
-use Rattle.plain_creates.specs.PlainCreates.{IsOwner, is_plain_create, refusal_of_create, created_record}
+use Rattle.plain_creates.specs.PlainCreates.{IsOwner, is_plain_named, refusal_of_create, created_record}
 use Rattle.plain_creates.specs.OnePuts.{commit_of_put, IsOnePut, last_put, count_puts}
 use Rattle.zone_model.specs.Form.{IsKey, are_in_order, IsInForm}
 use Rattle.zone_model.specs.Modifying.{outcome_of, request_at, judgement_at, effect_at, modified_as_one, modified, commits_of_request}
-use Rattle.zone_model.specs.Lawful.{has_next_tag, are_lawful}
+use Rattle.zone_model.specs.Lawful.{MayFollowInTurn}
 use Rattle.zone_model.specs.declared.events.Event.{Event}
-use Rattle.zone_model.specs.Events.{commits_of, log_of}
-use Rattle.zone_model.specs.Legal.{is_legal_event, IsLegal}
+use Rattle.zone_model.specs.Events.{log_of}
+use Rattle.zone_model.specs.Legal.{IsLegalEvent, IsLegal}
+use Rattle.zone_laws.specs.Writable.{IsNearestSeen, IsWritable}
 
 -- ---- records
 
@@ -101,11 +101,11 @@ pub record StaysInOrder : Type 0 where
   pub view : (log : List Commit) (u : List ℕ) (scope : Scope) (key : ZoneKey)
       → IsAscending (view_of log u scope key).rows
 
--- one legal event more leaves the history of a lock legal, and its log lawful
+-- One legal event more leaves the history of a lock legal. The commits of its log follow each other, and have their form.
 pub record HistoriesStayLegal : Type 0 where
-  pub grows : (lock : ℕ) (es : List Event) (e : Event) → IsLegal lock es → is_legal_event lock es e ≡ true
-      → AllByRecursion IsInForm (commits_of e) → IsLegal lock (es ++ e ∷ [])
-  pub lawful : (lock : ℕ) (es : List Event) → IsLegal lock es → are_lawful [] (log_of es) ≡ true
+  pub grows : (lock : ℕ) (es : List Event) (e : Event) → IsLegal lock es → IsLegalEvent lock es e → IsLegal lock (es ++ e ∷ [])
+  pub lawful : (lock : ℕ) (es : List Event) → IsLegal lock es → MayFollowInTurn [] (log_of es)
+  pub formed : (lock : ℕ) (es : List Event) → IsLegal lock es → AllByRecursion IsInForm (log_of es)
 
 -- ---- views and entries
 
@@ -214,11 +214,10 @@ pub record PermissionsAreSeen : Type 0 where
       → record_at (view_of log u Shared key).rows y ≡ Some t
   pub writing : (log : List Commit) (key : ZoneKey) (u x : List ℕ) → IsParticipantsZone key u
       → may_write (view_of log u Shared key).rows u x ≡ may_write (zone_at log key).rows u x
-  pub judging : (log : List Commit) (caller : Caller) (pasts : List Past) (ops : List Op) (x : List ℕ)
+  pub judging : (log : List Commit) (caller : Caller) (pasts : List Past) (ops : List NamedOp) (x y : List ℕ)
       → caller.scope ≡ Shared → IsParticipantsZone caller.key caller.user
       → (let g = grounds_of caller pasts (view_of log caller.user caller.scope caller.key).rows ops in
-      is_writable g x
-      ≡ is_some_and (may_write (zone_at log caller.key).rows caller.user) (find (is_seen g) (ancestors g.working x)))
+      IsNearestSeen g y x → is_writable g x ≡ may_write (zone_at log caller.key).rows caller.user y)
 
 -- the record t is a share that covers x for the user
 pub record IsCoveredBy (rows : List Record) (u x : List ℕ) (t : Record) : Type 0 where
@@ -244,28 +243,28 @@ pub record NothingElseIsSeen : Type 0 where
 
 -- What may be put in the shared scope: a record of the view that is writable and no share; or a new one that begins no
 -- share, under a parent that is writable.
-pub record IsPermittedPut (g : Grounds) (op : Op) : Type 0 where
-  pub old : is_seen g (name_of_op op) ≡ true
-      → (is_writable g (name_of_op op) ≡ true) × (is_some_and is_share (record_at g.seen (name_of_op op)) ≡ false)
-  pub new : is_seen g (name_of_op op) ≡ false
-      → (begins_share g.seen (record { kind = op.kind; draft = op.draft; guid = [] }) ≡ false)
-      × ((q : List ℕ) × (new_parent op.draft ≡ Some q) × (is_writable g q ≡ true))
+pub record IsPermittedPut (g : Grounds) (op : NamedOp) : Type 0 where
+  pub old : is_seen g op.name ≡ true
+      → IsWritable g op.name × (is_some_and is_share (record_at g.seen op.name) ≡ false)
+  pub new : is_seen g op.name ≡ false
+      → (begins_share g.seen op ≡ false)
+      × ((q : List ℕ) × (new_parent op.draft ≡ Some q) × IsWritable g q)
 
 -- what may be deleted there: a share, which is left, or what is writable and has no share
-abbrev pub IsPermittedDeletion : Grounds → Op → Type 0
-IsPermittedDeletion g op = (r : Record) → record_at g.seen (name_of_op op) ≡ Some r
-    → (is_share r ≡ true) ⊎ ((is_writable g r.name ≡ true) × (is_some r.share ≡ false))
+abbrev pub IsPermittedDeletion : Grounds → NamedOp → Type 0
+IsPermittedDeletion g op = (r : Record) → record_at g.seen op.name ≡ Some r
+    → (is_share r ≡ true) ⊎ (IsWritable g r.name × (is_some r.share ≡ false))
 
-pub record IsPermittedOp (g : Grounds) (op : Op) : Type 0 where
+pub record IsPermittedOp (g : Grounds) (op : NamedOp) : Type 0 where
   pub put : is_deletion op.kind ≡ false → IsPermittedPut g op
   pub deletion : is_deletion op.kind ≡ true → IsPermittedDeletion g op
 
-abbrev pub IsPermitted : Grounds → Op × Option OpFault → Type 0
+abbrev pub IsPermitted : Grounds → NamedOp × Option OpFault → Type 0
 IsPermitted g judged = judged.1 ≡ None → IsPermittedOp g judged.0
 
 -- in the shared scope nothing passes that is not permitted
 abbrev pub SharedChangesArePermitted : Type 0
-SharedChangesArePermitted = (caller : Caller) (view : View) (pasts : List Past) (ops : List Op)
+SharedChangesArePermitted = (caller : Caller) (view : View) (pasts : List Past) (ops : List NamedOp)
     → is_shared caller.scope ≡ true
     → AllByRecursion (IsPermitted (grounds_of caller pasts view.rows ops)) (zip ops (judgement view pasts ops caller))
 
@@ -304,82 +303,87 @@ OwnersSeeAll = (caller : Caller) (log : List Commit) → IsOwner caller → (zon
 
 -- A request of one operation comes to the same whether it is judged as one or not.
 abbrev pub OneIsEitherWay : Type 0
-OneIsEitherWay = (caller : Caller) (moment : ℕ) (log : List Commit) (atomic : Bool) (op : Op) (guids : List (List ℕ))
-    → modified caller moment log atomic (op ∷ []) guids ≡ modified_as_one caller moment log (op ∷ []) guids
+OneIsEitherWay = (caller : Caller) (moment : ℕ) (log : List Commit) (atomic : Bool) (op : NamedOp)
+    → modified caller moment log atomic (op ∷ []) ≡ modified_as_one caller moment log (op ∷ [])
 
 -- The creation of a record that stands alone, in a zone of one's own that is there: it is refused where its name is
 -- taken, or where it has no type or is too large, and else puts the record in one commit.
 pub record PlainCreatesAreDone : Type 0 where
-  pub judged : (caller : Caller) (moment : ℕ) (log : List Commit) (op : Op)
-      → IsOwner caller → (zone_at log caller.key).there ≡ true → is_plain_create op ≡ true
-      → judgement_at caller moment log (op ∷ []) ≡ refusal_of_create (zone_at log caller.key).rows op.draft ∷ []
-  pub refused : (caller : Caller) (moment : ℕ) (log : List Commit) (op : Op) (guids : List (List ℕ)) (fault : OpFault)
-      → IsOwner caller → (zone_at log caller.key).there ≡ true → is_plain_create op ≡ true
-      → refusal_of_create (zone_at log caller.key).rows op.draft ≡ Some fault
-      → modified_as_one caller moment log (op ∷ []) guids ≡ record { outcomes = Refused fault None ∷ []; commits = [] }
-  pub made : (caller : Caller) (moment : ℕ) (log : List Commit) (op : Op) (guids : List (List ℕ))
-      → IsOwner caller → (zone_at log caller.key).there ≡ true → is_plain_create op ≡ true
-      → refusal_of_create (zone_at log caller.key).rows op.draft ≡ None
-      → (let r = created_record caller.user moment (puts_at log caller.key) op.draft in
-      modified_as_one caller moment log (op ∷ []) guids
+  pub judged : (caller : Caller) (moment : ℕ) (log : List Commit) (op : NamedOp)
+      → IsOwner caller → (zone_at log caller.key).there ≡ true → is_plain_named op ≡ true
+      → judgement_at caller moment log (op ∷ []) ≡ refusal_of_create (zone_at log caller.key).rows op.name op.draft ∷ []
+  pub refused : (caller : Caller) (moment : ℕ) (log : List Commit) (op : NamedOp) (fault : OpFault)
+      → IsOwner caller → (zone_at log caller.key).there ≡ true → is_plain_named op ≡ true
+      → refusal_of_create (zone_at log caller.key).rows op.name op.draft ≡ Some fault
+      → modified_as_one caller moment log (op ∷ []) ≡ record { outcomes = Refused fault None ∷ []; commits = [] }
+  pub made : (caller : Caller) (moment : ℕ) (log : List Commit) (op : NamedOp)
+      → IsOwner caller → (zone_at log caller.key).there ≡ true → is_plain_named op ≡ true
+      → refusal_of_create (zone_at log caller.key).rows op.name op.draft ≡ None
+      → (let r = created_record caller.user moment (puts_at log caller.key) op.name op.draft in
+      modified_as_one caller moment log (op ∷ [])
       ≡ record { outcomes = Put r ∷ []; commits = commit_of_put caller.key caller.user moment r ∷ [] })
 
 -- The record of such a creation has the form in which a zone keeps it, and its commit has its form.
 pub record PlainCreatesAreInForm : Type 0 where
-  pub kept : (user : List ℕ) (moment : ℕ) (rows : List Record) (puts : List ℕ → ℕ) (op : Op)
-      → is_plain_create op ≡ true → refusal_of_create rows op.draft ≡ None → is_some op.draft.name ≡ true
+  pub kept : (user : List ℕ) (moment : ℕ) (rows : List Record) (puts : List ℕ → ℕ) (op : NamedOp)
+      → is_plain_named op ≡ true → refusal_of_create rows op.name op.draft ≡ None → IsName op.name
       → IsMeantDraft op.draft
-      → IsName user → moment < 2 ^ 64 → suc (puts (name_of_op op)) < 2 ^ 64
-      → IsStored (created_record user moment puts op.draft)
+      → IsName user → moment < 2 ^ 64 → suc (puts op.name) < 2 ^ 64
+      → IsStored (created_record user moment puts op.name op.draft)
   pub formed : (key : ZoneKey) (user : List ℕ) (moment : ℕ) (r : Record) → IsKey key → IsName user → moment < 2 ^ 64
       → IsStored r → IsInForm (commit_of_put key user moment r)
 
 -- What is shown of a conflict is the record of the name, whose tag is another one than was given; or, where a share is
 -- begun under a name that none has, the root that was given, whose tag is. The operation is not forced.
-abbrev pub IsInTheWay : List Record → Op → Record → Type 0
+abbrev pub IsInTheWay : List Record → NamedOp → Record → Type 0
 IsInTheWay seen op r =
     (is_forced op.kind ≡ false)
-    × (((record_at seen (name_of_op op) ≡ Some r) × (is_stale op.draft.tag r ≡ true))
-    ⊎ ((record_at seen (name_of_op op) ≡ None) × (begins_share seen (record { kind = op.kind; draft = op.draft; guid = [] }) ≡ true)
+    × (((record_at seen op.name ≡ Some r) × (is_stale op.draft.tag r ≡ true))
+    ⊎ ((record_at seen op.name ≡ None) × (begins_share seen op ≡ true)
     × (option_and_then (record_at seen) (root_given op.draft) ≡ Some r) × (is_stale (root_tag_given op.draft) r ≡ true)))
 
-abbrev pub IsShown : Request → Op × Option OpFault → Type 0
+abbrev pub IsShown : Request → NamedOp × Option OpFault → Type 0
 IsShown q judged = (r : Record) × (outcome_of q judged ≡ Refused Conflict (Some r)) × IsInTheWay q.seen judged.0 r
 
-abbrev pub ShowsConflict : Request → Op × Option OpFault → Type 0
+abbrev pub ShowsConflict : Request → NamedOp × Option OpFault → Type 0
 ShowsConflict q judged = judged.1 ≡ Some Conflict → IsShown q judged
 
 -- A refusal shows a record only where it is a conflict, and each conflict shows the record that stands in its way.
 pub record ConflictsShowRecords : Type 0 where
-  pub only : (q : Request) (op : Op) (judged : Option OpFault) (fault : OpFault) (r : Record)
+  pub only : (q : Request) (op : NamedOp) (judged : Option OpFault) (fault : OpFault) (r : Record)
       → outcome_of q (op, judged) ≡ Refused fault (Some r) → fault ≡ Conflict
-  pub each : (q : Request) (view : View) (pasts : List Past) (ops : List Op) (caller : Caller) → q.seen ≡ view.rows
+  pub each : (q : Request) (view : View) (pasts : List Past) (ops : List NamedOp) (caller : Caller) → q.seen ≡ view.rows
       → AllByRecursion (ShowsConflict q) (zip ops (judgement view pasts ops caller))
 
 -- each operation is judged
 abbrev pub EachIsJudged : Type 0
-EachIsJudged = (view : View) (pasts : List Past) (ops : List Op) (caller : Caller)
+EachIsJudged = (view : View) (pasts : List Past) (ops : List NamedOp) (caller : Caller)
     → length (judgement view pasts ops caller) ≡ length ops
 
--- What a request commits is in order by name, and its puts have the next tags.
+abbrev pub HasNextTag : (List ℕ → ℕ) → Write → Type 0
+HasNextTag puts (Write.Put r) = r.tag ≡ suc (puts r.name)
+HasNextTag puts (Write.Remove x) = ⊤
+HasNextTag puts (Write.PutRemove x) = ⊤
+
+-- What a request commits is in order by name, and its puts have the next tags, whatever names go.
 pub record EffectsAreInOrder : Type 0 where
-  pub ordered : (caller : Caller) (moment : ℕ) (log : List Commit) (ops : List Op) (guids : List (List ℕ))
-      → let q = request_at caller moment log ops guids in are_in_order (writes q (removed q)) ≡ true
-  pub tagged : (q : Request) → list_all (has_next_tag q.puts) (writes q (removed q)) ≡ true
+  pub ordered : (caller : Caller) (moment : ℕ) (log : List Commit) (ops : List NamedOp) (gone : List (List ℕ))
+      → are_in_order (writes (request_at caller moment log ops) gone) ≡ true
+  pub tagged : (q : Request) (gone : List (List ℕ)) → AllByRecursion (HasNextTag q.puts) (writes q gone)
 
 -- Where the zone is there and no root is given twice, what a request commits may follow after any lawful log: as one,
 -- and one operation after another.
 pub record EffectsAreLawful : Type 0 where
-  pub as_one : (caller : Caller) (moment : ℕ) (log : List Commit) (ops : List Op) (guids : List (List ℕ))
-      → are_lawful [] log ≡ true → (zone_at log caller.key).there ≡ true → has_twice (roots_in ops) ≡ false
-      → are_lawful log (effect_at caller moment log ops guids) ≡ true
-  pub requests : (caller : Caller) (moment : ℕ) (log : List Commit) (atomic : Bool) (ops : List Op) (guids : List (List ℕ))
-      → are_lawful [] log ≡ true → (zone_at log caller.key).there ≡ true → has_twice (roots_in ops) ≡ false
-      → are_lawful log (commits_of_request caller moment log atomic ops guids) ≡ true
+  pub as_one : (caller : Caller) (moment : ℕ) (log : List Commit) (ops : List NamedOp)
+      → MayFollowInTurn [] log → (zone_at log caller.key).there ≡ true → has_twice (roots_in ops) ≡ false
+      → MayFollowInTurn log (effect_at caller moment log ops)
+  pub requests : (caller : Caller) (moment : ℕ) (log : List Commit) (atomic : Bool) (ops : List NamedOp)
+      → MayFollowInTurn [] log → (zone_at log caller.key).there ≡ true → has_twice (roots_in ops) ≡ false
+      → MayFollowInTurn log (commits_of_request caller moment log atomic ops)
 
 -- a put as requests give it, with its name, and with a GUID where it gives a root
-pub record IsGivenPut (p : Putting) : Type 0 where
-  pub name : IsName (name_of_put p)
+pub record IsGivenPut (p : NamedOp) : Type 0 where
+  pub name : IsName p.name
   pub meant : IsMeantDraft p.draft
   pub drawn : is_some p.draft.for_root ≡ true → IsGuid p.guid
 
@@ -402,15 +406,15 @@ HasFewWrites c = length (writes_in c.act) < 2 ^ 32
 -- What a request commits has the form of a commit, where all commits before it have, by a user and at a moment in their
 -- forms, as long as no count passes its range: as one, and one operation after another.
 pub record EffectsAreInForm : Type 0 where
-  pub as_one : (caller : Caller) (moment : ℕ) (log : List Commit) (ops : List Op) (guids : List (List ℕ))
-      → are_lawful [] log ≡ true → AllByRecursion IsInForm log → (zone_at log caller.key).there ≡ true
-      → has_twice (roots_in ops) ≡ false → AllByRecursion IsGivenPut (puts_in ops guids)
+  pub as_one : (caller : Caller) (moment : ℕ) (log : List Commit) (ops : List NamedOp)
+      → MayFollowInTurn [] log → AllByRecursion IsInForm log → (zone_at log caller.key).there ≡ true
+      → has_twice (roots_in ops) ≡ false → AllByRecursion IsGivenPut (puts_in ops)
       → IsKey caller.key → IsName caller.user → moment < 2 ^ 64
-      → (let commits = effect_at caller moment log ops guids in
+      → (let commits = effect_at caller moment log ops in
       HaveRoom log caller.key commits → AllByRecursion HasFewWrites commits → AllByRecursion IsInForm commits)
-  pub requests : (caller : Caller) (moment : ℕ) (log : List Commit) (atomic : Bool) (ops : List Op) (guids : List (List ℕ))
-      → are_lawful [] log ≡ true → AllByRecursion IsInForm log → (zone_at log caller.key).there ≡ true
-      → has_twice (roots_in ops) ≡ false → AllByRecursion IsGivenPut (puts_in ops guids)
+  pub requests : (caller : Caller) (moment : ℕ) (log : List Commit) (atomic : Bool) (ops : List NamedOp)
+      → MayFollowInTurn [] log → AllByRecursion IsInForm log → (zone_at log caller.key).there ≡ true
+      → has_twice (roots_in ops) ≡ false → AllByRecursion IsGivenPut (puts_in ops)
       → IsKey caller.key → IsName caller.user → moment < 2 ^ 64
-      → (let commits = commits_of_request caller moment log atomic ops guids in
+      → (let commits = commits_of_request caller moment log atomic ops in
       HaveRoom log caller.key commits → AllByRecursion HasFewWrites commits → AllByRecursion IsInForm commits)

@@ -1,5 +1,9 @@
 -- copies that are in step with a number, and the fold of a page
 pub mod Copies
+-- which names may be written
+pub mod Writable
+-- tests of what may follow, and that they decide it
+pub mod LawfulTests
 -- the laws of the rules
 pub mod Laws
 -- records through a log
@@ -10,3 +14,7 @@ pub mod People
 pub mod Following
 -- what a request is answered, and what it commits
 pub mod Answering
+-- what comes of operations that are done one after another
+pub mod Stepping
+-- what the laws ask of operations holds of those that a request has
+pub mod MeantRequests

@@ -7,7 +7,7 @@ use Rattle.zone_model.specs.declared.commits.Commit.{Commit}
 use Rattle.zone_model.specs.Records.{record_at, is_there}
 use Rattle.zone_model.specs.Zones.{zone_at, puts_at}
 use Rattle.zone_model.specs.Views.{fronts}
-use Rattle.zone_model.specs.Lawful.{are_well_formed, are_lawful}
+use Rattle.zone_model.specs.Lawful.{FitTogether, MayFollowInTurn}
 
 -- the name has a record all the while that the commits are made
 abbrev pub lives_through : List Commit → ZoneKey → List ℕ → List Commit → Type 0
@@ -16,15 +16,15 @@ lives_through log key x more = list_all (λ front. is_there (zone_at (log ++ fro
 -- After each lawful log a record's tag is the count of its puts, and the records of a zone fit together. A record keeps
 -- its parent from one commit to the next, and so through its life.
 pub record LivesAreKept : Type 0 where
-  pub tag : (log : List Commit) (key : ZoneKey) (x : List ℕ) (r : Record) → are_lawful [] log ≡ true
+  pub tag : (log : List Commit) (key : ZoneKey) (x : List ℕ) (r : Record) → MayFollowInTurn [] log
       → record_at (zone_at log key).rows x ≡ Some r → r.tag ≡ puts_at log key x
-  pub formed : (log : List Commit) (key : ZoneKey) → are_lawful [] log ≡ true
-      → are_well_formed (zone_at log key).rows ≡ true
+  pub formed : (log : List Commit) (key : ZoneKey) → MayFollowInTurn [] log
+      → FitTogether (zone_at log key).rows
   pub parent : (log : List Commit) (c : Commit) (key : ZoneKey) (x : List ℕ) (old new : Record)
-      → are_lawful [] (log ++ c ∷ []) ≡ true
+      → MayFollowInTurn [] (log ++ c ∷ [])
       → record_at (zone_at log key).rows x ≡ Some old → record_at (zone_at (log ++ c ∷ []) key).rows x ≡ Some new
       → new.parent ≡ old.parent
   pub life : (more log : List Commit) (key : ZoneKey) (x : List ℕ) (old new : Record)
-      → are_lawful [] (log ++ more) ≡ true → lives_through log key x more
+      → MayFollowInTurn [] (log ++ more) → lives_through log key x more
       → record_at (zone_at log key).rows x ≡ Some old → record_at (zone_at (log ++ more) key).rows x ≡ Some new
       → new.parent ≡ old.parent

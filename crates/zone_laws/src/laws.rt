@@ -1,8 +1,12 @@
 // What holds of the rules. The functions do nothing: their clauses are the laws.
 ghost use Rattle.zone_laws.specs.Answering.{EachIsAnswered, StampsAreSet, OutcomesAreWritten, DeletionsAreWritten, SharedWritesAreAllowed, AnyLeastSetWillDo, MadeWhereWritten};
+ghost use Rattle.zone_laws.specs.Stepping.{StepsKeepTheLaws};
 ghost use Rattle.zone_laws.specs.Following.{PagesHold, FeedsTellAll, SeenIsTold};
 ghost use Rattle.zone_laws.specs.People.{NobodyIsLetIn};
+ghost use Rattle.zone_laws.specs.Writable.{WritableIsTold};
+ghost use Rattle.zone_laws.specs.LawfulTests.{TestsDecide};
 ghost use Rattle.zone_laws.specs.Lives.{LivesAreKept};
+ghost use Rattle.zone_laws.specs.MeantRequests.{MeantRequestsAreLawful};
 ghost use Rattle.zone_laws.specs.Laws.{AlikeIsSame, AncestorsAreFound, RemovalIsLeast, ZonesGrow, ChangesNothing, StaysInOrder, RepeatsAreDropped, ViewsGrow, ZoneEntriesGrow, FeedsLoseNothing, EqualViewsGiveNone, PagesKeepInStep, CopiesStayInStep, NothingIsInStep, EffectsAreInOrder, EffectsAreLawful, EffectsAreInForm, HistoriesStayLegal, PermissionsAreSeen, NothingElseIsSeen, EachIsJudged, OnePutMore, PutsAreFound, OwnersSeeAll, OneIsEitherWay, PlainCreatesAreDone, PlainCreatesAreInForm, ConflictsShowRecords, SharedChangesArePermitted};
 
 /// Records that compare alike are the same, and each compares alike with itself; so do views.
@@ -82,6 +86,16 @@ pub fn nothing_is_in_step()
 /// What a request commits is in ascending order of names, and its puts have the next tags.
 pub fn effects_are_in_order()
     ensures { EffectsAreInOrder }
+{}
+
+/// The test of what may be written passes just where the nearest name in the view may be.
+pub fn writable_is_told()
+    ensures { WritableIsTold }
+{}
+
+/// The tests of what may follow pass just where it may.
+pub fn tests_decide()
+    ensures { TestsDecide }
 {}
 
 /// What a request commits may follow after any lawful log, where its zone is there and no root is
@@ -227,4 +241,16 @@ pub fn any_least_set_will_do()
 /// written.
 pub fn made_where_written()
     ensures { MadeWhereWritten }
+{}
+
+/// Operations that are done one after another: what holds of a request of one operation holds of each at the log
+/// that it finds.
+pub fn steps_keep_the_laws()
+    ensures { StepsKeepTheLaws }
+{}
+
+/// The operations that a request has name no record twice and give no root twice, and what they
+/// commit may follow after any lawful log.
+pub fn meant_requests_are_lawful()
+    ensures { MeantRequestsAreLawful }
 {}

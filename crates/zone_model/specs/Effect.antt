@@ -5,7 +5,6 @@ use Rattle.record_model.specs.declared.records.Stamp.{Stamp}
 use Rattle.record_model.specs.declared.records.Body.{Body}
 use Rattle.record_model.specs.declared.records.Body.TheVariants.{Plain, Share}
 use Rattle.record_model.specs.declared.records.Record.{Record}
-use Rattle.zone_model.specs.declared.operations.Op.{Op}
 use Rattle.zone_model.specs.declared.commits.Write.{Write}
 use Rattle.zone_model.specs.declared.commits.Write.TheVariants.{Put, Remove, PutRemove}
 use Rattle.zone_model.specs.declared.commits.Act.TheVariants.{Writes}
@@ -13,22 +12,21 @@ use Rattle.zone_model.specs.declared.commits.Commit.{Commit}
 use Rattle.zone_model.specs.Names.{same, is_in, is_shared}
 use Rattle.zone_model.specs.Records.{is_there, with_record, is_share}
 use Rattle.zone_model.specs.Views.{is_empty}
-use Rattle.zone_model.specs.Requests.{Caller, Putting, puts_in, name_of_put, names_deleted}
+use Rattle.zone_model.specs.Requests.{Caller, NamedOp, puts_in, names_deleted}
 use Rattle.share_records.specs.ShareLists.{share_without}
 use Rattle.zone_model.specs.Working.{is_share_of, is_new_share_of, working_view}
 use Rattle.zone_model.specs.Grounds.{names_taken}
 use Rattle.zone_model.specs.Cascade.{removed_names}
 
--- A request that was judged: who asks and when, the records that the caller sees, all records of the zone,
--- how often its names were put, the operations, and a GUID for each put that gives a root.
+-- A request that was judged: who asks and when, the records that the caller sees, all records of the zone, how often its names were put,
+-- and the operations.
 pub record Request : Type 0 where
   pub caller : Caller
   pub moment : ℕ
   pub seen : List Record
   pub rows : List Record
   pub puts : List ℕ → ℕ
-  pub ops : List Op
-  pub guids : List (List ℕ)
+  pub ops : List NamedOp
 
 abbrev pub body_without : List ℕ → Body → Body
 body_without u Plain = Plain
@@ -36,13 +34,13 @@ body_without u (Share s) = Share (share_without u s)
 
 module _ (q : Request) where
   abbrev pub working : List Record
-  working = working_view q.caller.scope q.seen q.ops q.guids
+  working = working_view q.caller.scope q.seen q.ops
 
   -- ---- what is put
 
   -- the request puts the name
   abbrev pub is_asked : List ℕ → Bool
-  is_asked x = list_any (λ (p : Putting). same x (name_of_put p)) (puts_in q.ops q.guids)
+  is_asked x = list_any (λ (p : NamedOp). same x p.name) (puts_in q.ops)
 
   -- a new share marks the name as its root
   abbrev pub is_marked : List ℕ → Bool

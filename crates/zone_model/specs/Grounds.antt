@@ -1,7 +1,6 @@
 -- What a judgement rests on.
 use Rattle.std.specs.Prelude.{ℕ, Bool, not, ◌||◌, List, [], ◌∷◌, filter, find, Option, Some, None, decimal, if◌then◌else◌}
 use Rattle.record_model.specs.declared.records.Record.{Record}
-use Rattle.zone_model.specs.declared.operations.Op.{Op}
 use Rattle.zone_model.specs.declared.operations.Past.{Past}
 use Rattle.zone_model.specs.declared.outcomes.OpFault.{OpFault}
 use Rattle.zone_model.specs.Names.{same_option, is_private}
@@ -9,7 +8,7 @@ use Rattle.name_rules.specs.Options.{is_some_and}
 use Rattle.zone_model.specs.Records.{record_at, is_there, is_share}
 use Rattle.zone_model.specs.Ancestry.{ancestors}
 use Rattle.zone_model.specs.Coverage.{may_write}
-use Rattle.zone_model.specs.Requests.{Caller, names_deleted}
+use Rattle.zone_model.specs.Requests.{Caller, NamedOp, names_deleted}
 use Rattle.zone_model.specs.Working.{working_view}
 
 -- Who asks, what has happened to the names, the records of the view before and of the working view, and the names that deletions take.
@@ -24,16 +23,15 @@ pub record Grounds : Type 0 where
 abbrev pub is_taken_by_deletion : Caller → List Record → List ℕ → Bool
 is_taken_by_deletion caller seen x = is_some_and (λ (r : Record). is_private caller.scope || not (is_share r)) (record_at seen x)
 
-abbrev pub names_taken : Caller → List Record → List Op → List (List ℕ)
+abbrev pub names_taken : Caller → List Record → List NamedOp → List (List ℕ)
 names_taken caller seen ops = filter (is_taken_by_deletion caller seen) (names_deleted ops)
 
--- the checks look at no GUID
-abbrev pub grounds_of : Caller → List Past → List Record → List Op → Grounds
+abbrev pub grounds_of : Caller → List Past → List Record → List NamedOp → Grounds
 grounds_of caller pasts seen ops = record {
   caller = caller;
   pasts = pasts;
   seen = seen;
-  working = working_view caller.scope seen ops [];
+  working = working_view caller.scope seen ops;
   taken = names_taken caller seen ops;
 }
 

@@ -56,12 +56,12 @@ pub mod Cascade
 pub mod Effect
 -- what a request comes to: its answers and its commits
 pub mod Modifying
+-- histories of locks, and how they grow
+pub mod Histories
 -- the form of a commit
 pub mod Form
 -- which commits may follow
 pub mod Lawful
--- histories of locks, and how they grow
-pub mod Histories
 -- the commits of events, and whose events they are
 pub mod Events
 -- which events may follow in a history

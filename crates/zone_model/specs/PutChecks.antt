@@ -15,18 +15,18 @@ use Rattle.zone_model.specs.Records.{record_at, is_share}
 use Rattle.zone_model.specs.References.{references_in, validates}
 use Rattle.zone_model.specs.Ancestry.{is_ancestor}
 use Rattle.zone_model.specs.Past.{is_taken}
-use Rattle.zone_model.specs.Requests.{Putting, name_of_put, is_create, is_forced, makes_new, begins_share, parent_given, new_parent, root_given, root_tag_given}
+use Rattle.zone_model.specs.Requests.{NamedOp, is_create, is_forced, makes_new, begins_share, parent_given, new_parent, root_given, root_tag_given}
 use Rattle.share_records.specs.ShareLists.{is_refused_list}
 use Rattle.zone_model.specs.Putting.{written_over}
 use Rattle.zone_model.specs.Grounds.{Grounds, is_stale, is_seen, in_working, is_writable, first_fault}
 
-module _ (g : Grounds) (p : Putting) where
+module _ (g : Grounds) (p : NamedOp) where
   -- the record of the view
   abbrev pub old : Option Record
-  old = record_at g.seen (name_of_put p)
+  old = record_at g.seen p.name
 
   abbrev pub is_new : Bool
-  is_new = not (is_seen g (name_of_put p))
+  is_new = not (is_seen g p.name)
 
   abbrev pub begins : Bool
   begins = begins_share g.seen p
@@ -55,13 +55,13 @@ module _ (g : Grounds) (p : Putting) where
   is_in_view = is_create p.kind && not is_new
 
   abbrev pub is_hidden : Bool
-  is_hidden = makes_new p.kind && (is_new && is_taken g.pasts (name_of_put p))
+  is_hidden = makes_new p.kind && (is_new && is_taken g.pasts p.name)
 
   abbrev pub has_shared_root : Bool
   has_shared_root = is_some_and (λ (r : Record). is_some r.share) root_seen
 
   abbrev pub is_name_taken : List (List ℕ) → Bool
-  is_name_taken earlier = is_in_view || (is_hidden || (is_in earlier (name_of_put p) || has_shared_root))
+  is_name_taken earlier = is_in_view || (is_hidden || (is_in earlier p.name || has_shared_root))
 
   -- ---- the record is missing
 
@@ -113,7 +113,7 @@ module _ (g : Grounds) (p : Putting) where
 
   abbrev pub is_denied : Bool
   is_denied = is_shared g.caller.scope
-      && (is_of_share || ((not is_new && not (is_writable g (name_of_put p))) || (is_new && (is_none parent || is_denied_parent))))
+      && (is_of_share || ((not is_new && not (is_writable g p.name)) || (is_new && (is_none parent || is_denied_parent))))
 
   -- ---- a record is missing that the put refers to
 
@@ -123,7 +123,7 @@ module _ (g : Grounds) (p : Putting) where
 
   -- the parent is missing, is a share, or stands at or below the name
   abbrev pub has_bad_parent : Bool
-  has_bad_parent = is_some_and (λ q. not (is_plain_in_working q) || is_ancestor g.working (name_of_put p) q) parent
+  has_bad_parent = is_some_and (λ q. not (is_plain_in_working q) || is_ancestor g.working p.name q) parent
 
   abbrev pub has_bad_root : Bool
   has_bad_root = is_some_and (λ x. not (is_plain_in_working x)) root

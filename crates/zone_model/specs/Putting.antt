@@ -10,7 +10,7 @@ use Rattle.record_model.specs.declared.records.Body.TheVariants.{Plain, Share}
 use Rattle.record_model.specs.declared.records.Record.{Record}
 use Rattle.zone_model.specs.Names.{same}
 use Rattle.zone_model.specs.Records.{record_at}
-use Rattle.zone_model.specs.Requests.{Putting, name_of_put, makes_new, changes_old, drops_fields, has_share_type, new_parent, root_given, first_puts}
+use Rattle.zone_model.specs.Requests.{NamedOp, makes_new, changes_old, drops_fields, has_share_type, new_parent, root_given, first_puts}
 use Rattle.zone_model.specs.Sharing.{share_after}
 use Rattle.share_records.specs.ShareLists.{first_share}
 
@@ -41,9 +41,9 @@ abbrev pub no_stamp : Stamp
 no_stamp = record { moment = 0; user = [] }
 
 -- the record that a put begins
-abbrev pub new_record : Putting → Record
+abbrev pub new_record : NamedOp → Record
 new_record p = record {
-  name = name_of_put p;
+  name = p.name;
   rtype = unwrap_or p.draft.rtype [];
   tag = 0;
   parent = new_parent p.draft;
@@ -55,17 +55,17 @@ new_record p = record {
 }
 
 -- a record that is there, after a put: it keeps its type and its parent
-abbrev pub changed_record : Putting → Record → Record
+abbrev pub changed_record : NamedOp → Record → Record
 changed_record p r = record r {
   fields = after_wishes (if drops_fields p.kind then [] else r.fields) p.draft.fields;
   body = body_after r.body p.draft;
 }
 
 -- what a put writes where the caller sees this record, or none, of its name
-abbrev pub written_over : Putting → Option Record → Option Record
+abbrev pub written_over : NamedOp → Option Record → Option Record
 written_over p None = if makes_new p.kind then Some (new_record p) else None
 written_over p (Some r) = if changes_old p.kind then Some (changed_record p r) else None
 
 -- what the puts write over the records that the caller sees
-abbrev pub records_written : List Record → List Putting → List Record
-records_written seen puts = filter_map (λ (p : Putting). written_over p (record_at seen (name_of_put p))) (first_puts puts)
+abbrev pub records_written : List Record → List NamedOp → List Record
+records_written seen puts = filter_map (λ (p : NamedOp). written_over p (record_at seen p.name)) (first_puts puts)

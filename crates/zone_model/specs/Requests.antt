@@ -10,7 +10,6 @@ use Rattle.record_model.specs.declared.records.Record.{Record}
 use Rattle.record_model.specs.RecordForms.{is_share_type}
 use Rattle.zone_model.specs.declared.operations.OpKind.{OpKind}
 use Rattle.zone_model.specs.declared.operations.OpKind.TheVariants.{Create, ForceUpdate, Replace, ForceReplace, Delete, ForceDelete}
-use Rattle.zone_model.specs.declared.operations.Op.{Op}
 use Rattle.zone_model.specs.Names.{same}
 use Rattle.name_rules.specs.Options.{is_some_and}
 use Rattle.zone_model.specs.Records.{is_there}
@@ -55,13 +54,6 @@ changes_old kind = not (is_create kind)
 
 -- ---- what a draft says
 
--- operations that are judged have a name
-abbrev pub name_of_draft : Draft → List ℕ
-name_of_draft d = unwrap_or d.name []
-
-abbrev pub name_of_op : Op → List ℕ
-name_of_op op = name_of_draft op.draft
-
 -- the parent that a draft gives, null standing for none, if it gives one at all
 abbrev pub parent_given : ParentWish → Option (Option (List ℕ))
 parent_given ParentWish.Absent = None
@@ -77,49 +69,32 @@ has_share_type d = is_some_and is_share_type d.rtype
 
 -- ---- the operations of a request
 
--- the names that deletions give
-abbrev pub names_deleted : List Op → List (List ℕ)
-names_deleted ops = map name_of_op (filter (λ (op : Op). is_deletion op.kind) ops)
-
--- the names that puts give
-abbrev pub names_put : List Op → List (List ℕ)
-names_put ops = map name_of_op (filter (λ (op : Op). not (is_deletion op.kind)) ops)
-
--- a put, with the GUID that it draws where it gives a root
-pub record Putting : Type 0 where
+-- an operation with the name of its record, and with the GUID for the share that it begins, which is empty where it begins none
+pub record NamedOp : Type 0 where
   pub kind : OpKind
   pub draft : Draft
+  pub name : List ℕ
   pub guid : List ℕ
 
-abbrev pub draws_guid : Op → Bool
-draws_guid op = not (is_deletion op.kind) && is_some op.draft.for_root
+abbrev pub puts_in : List NamedOp → List NamedOp
+puts_in ops = filter (λ (op : NamedOp). not (is_deletion op.kind)) ops
 
-abbrev pub first_guid : List (List ℕ) → List ℕ
-first_guid [] = []
-first_guid (g ∷ gs) = g
+-- the names that deletions give
+abbrev pub names_deleted : List NamedOp → List (List ℕ)
+names_deleted ops = map (λ (op : NamedOp). op.name) (filter (λ (op : NamedOp). is_deletion op.kind) ops)
 
--- the GUIDs that are left after the operation
-abbrev pub guids_left : Op → List (List ℕ) → List (List ℕ)
-guids_left op guids = if draws_guid op then drop 1 guids else guids
-
--- the puts in order, and each GUID for the next one that gives a root
-abbrev pub puts_in : List Op → List (List ℕ) → List Putting
-puts_in [] guids = []
-puts_in (op ∷ ops) guids =
-    if is_deletion op.kind then puts_in ops guids
-    else record { kind = op.kind; draft = op.draft; guid = first_guid guids } ∷ puts_in ops (guids_left op guids)
-
-abbrev pub name_of_put : Putting → List ℕ
-name_of_put p = name_of_draft p.draft
+-- the names that puts give
+abbrev pub names_put : List NamedOp → List (List ℕ)
+names_put ops = map (λ (op : NamedOp). op.name) (puts_in ops)
 
 -- of several puts with one name the first alone
-abbrev pub first_puts : List Putting → List Putting
+abbrev pub first_puts : List NamedOp → List NamedOp
 first_puts [] = []
-first_puts (p ∷ ps) = p ∷ filter (λ (q : Putting). not (same (name_of_put p) (name_of_put q))) (first_puts ps)
+first_puts (p ∷ ps) = p ∷ filter (λ (q : NamedOp). not (same p.name q.name)) (first_puts ps)
 
 -- the put begins a share: it makes a new record of that type
-abbrev pub begins_share : List Record → Putting → Bool
-begins_share seen p = makes_new p.kind && (not (is_there seen (name_of_put p)) && has_share_type p.draft)
+abbrev pub begins_share : List Record → NamedOp → Bool
+begins_share seen p = makes_new p.kind && (not (is_there seen p.name) && has_share_type p.draft)
 
 -- the root that a draft gives, and its tag
 abbrev pub root_given : Draft → Option (List ℕ)
@@ -129,5 +104,5 @@ abbrev pub root_tag_given : Draft → Option (List ℕ)
 root_tag_given d = option_map_or (λ (f : ForRoot). f.tag) d.for_root None
 
 -- the roots that puts give
-abbrev pub roots_in : List Op → List (List ℕ)
-roots_in ops = filter_map (λ (p : Putting). root_given p.draft) (puts_in ops [])
+abbrev pub roots_in : List NamedOp → List (List ℕ)
+roots_in ops = filter_map (λ (p : NamedOp). root_given p.draft) (puts_in ops)

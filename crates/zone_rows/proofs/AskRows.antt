@@ -1,5 +1,5 @@
 -- What a lock is given to see for an ask, what it answers and what it makes, at worked examples.
-use Rattle.std.proofs.Common.{◌≡◌, ℕ, List, [], ◌∷◌, ◌++◌, Some, None, refl, true, false, Bool}
+use Rattle.std.proofs.Common.{◌≡◌, ℕ, List, [], ◌∷◌, ◌++◌, Some, None, refl, true, false, Bool, map}
 use Rattle.std.specs.Prelude.{codes}
 use Rattle.std.specs.Fmt.{digits}
 use Rattle.ck_base.specs.KnownNames.{own_default}
@@ -8,6 +8,7 @@ use Rattle.ck_base.specs.declared.scope.Scope.{Scope}
 use Rattle.ck_base.specs.declared.scope.Scope.TheVariants.{Private, Shared}
 use Rattle.share_records.specs.declared.permission.Permission.TheVariants.{Nothing, ReadOnly}
 use Rattle.zone_model.specs.declared.operations.Op.{Op}
+use Rattle.zone_model.specs.Requests.{NamedOp}
 use Rattle.zone_model.specs.declared.outcomes.OpFault.TheVariants.{Exists, NotFound, Conflict, Atomic}
 use Rattle.zone_model.specs.declared.outcomes.Outcome.TheVariants.{Put as PutTold, Refused}
 use Rattle.zone_model.specs.declared.commits.Act.TheVariants.{Writes}
@@ -15,7 +16,8 @@ use Rattle.zone_model.specs.declared.commits.Write.TheVariants.{Put, Remove}
 use Rattle.zone_model.specs.declared.events.Event.{Event}
 use Rattle.zone_model.specs.declared.events.Event.TheVariants.{Made, StoreFailed}
 use Rattle.zone_model.specs.Views.{nowhere}
-use Rattle.zone_model.specs.Legal.{is_legal}
+use Rattle.zone_laws.specs.LawfulTests.{is_legal}
+use Rattle.zone_laws.specs.MeantRequests.{as_given}
 use Rattle.uuid.specs.Text.{by_index}
 use Rattle.drawn_names.specs.Drawing.{name_of_word, guid_of_word}
 use Rattle.board_model.specs.declared.parts.Part.{Part}
@@ -43,8 +45,8 @@ lists = record { owner = ann; zone = codes "Lists" }
 
 -- ---- what is asked
 
-abbrev modify : List ℕ → Scope → ZoneKey → Bool → List Op → Part
-modify u scope key atomic ops = Modify u scope key atomic ops 1000 []
+abbrev modify : List ℕ → Scope → ZoneKey → Bool → List NamedOp → Part
+modify u scope key atomic ops = Modify u scope key atomic (map as_given ops) 1000 []
 
 abbrev lookup : List ℕ → Scope → ZoneKey → Part
 lookup u scope key = Lookup u scope key (a ∷ m ∷ [])
@@ -235,7 +237,7 @@ a_hidden_record_is_not_found = refl
 
 -- ---- a default zone
 
-abbrev make_at_home : List Op → Part
+abbrev make_at_home : List NamedOp → Part
 make_at_home ops = modify ann Private (own_default ann) true ops
 
 -- it is there from the start, and has no atomic requests
@@ -267,7 +269,7 @@ a_word_makes_a_link = refl
 
 -- a create without a name, and then one with a name
 abbrev drawing : Part
-drawing = Modify ann Private notes true (op_of (record (typed k) { name = None }) ∷ create m ∷ []) 1000 (word 1 ∷ [])
+drawing = Modify ann Private notes true (map as_given (op_of (record (typed k) { name = None }) ∷ create m ∷ [])) 1000 (word 1 ∷ [])
 
 pub the_name_is_drawn : answer_at there drawing ≡ ModifyAnswer (PutTold (row (codes "00000000-0000-4000-8000-000000000001") 1 None) ∷ PutTold (row m 1 None) ∷ [])
 unfolding digits by_index
@@ -275,7 +277,7 @@ the_name_is_drawn = refl
 
 -- a share whose link is drawn by the second word, as its name is by the first
 abbrev sharing : Part
-sharing = Modify ann Private notes true (op_of (record (share_draft s a (Some (codes "1")) []) { name = None }) ∷ []) 1000 (word 2 ∷ word 1 ∷ [])
+sharing = Modify ann Private notes true (map as_given (op_of (record (share_draft s a (Some (codes "1")) []) { name = None }) ∷ [])) 1000 (word 2 ∷ word 1 ∷ [])
 
 pub the_link_is_drawn : answer_at there sharing ≡ ModifyAnswer (PutTold (share_row (codes "00000000-0000-4000-8000-000000000002") a Nothing []) ∷ [])
 unfolding digits by_index

@@ -12,7 +12,7 @@ use Rattle.record_model.specs.declared.records.Body.TheVariants.{Plain}
 use Rattle.record_model.specs.declared.records.Record.{Record}
 use Rattle.zone_model.specs.declared.operations.OpKind.{OpKind}
 use Rattle.zone_model.specs.declared.operations.OpKind.TheVariants.{Update, Replace}
-use Rattle.zone_model.specs.declared.operations.Op.{Op}
+use Rattle.zone_model.specs.Requests.{NamedOp}
 use Rattle.zone_model.specs.declared.outcomes.OpFault.TheVariants.{Exists, Conflict, BadRequest, AccessDenied, Validating}
 use Rattle.zone_model.specs.declared.outcomes.Outcome.{Outcome}
 use Rattle.zone_model.specs.declared.outcomes.Outcome.TheVariants as outcome
@@ -20,9 +20,9 @@ use Rattle.zone_model.specs.declared.commits.Commit.{Commit}
 use Rattle.ck_base.specs.KnownNames.{default_zone}
 use Rattle.zone_model.specs.Putting.{written_over}
 use Rattle.zone_model.specs.Modifying.{judgement_at, modified}
-use Rattle.zone_model.specs.Lawful.{are_lawful}
+use Rattle.zone_laws.specs.LawfulTests.{are_lawful}
 use Rattle.zone_rows.proofs.ReferenceRows.{to, references_to, size_to, by_ann}
-use Rattle.zone_rows.proofs.RowWords.{ann, bob, cat, dan, draft, typed, op_of, create, create_under, create_bound, update, delete, force_delete, invited, create_share, set_participants, set_public, made, link, asked_by, asks, accepts, told_ann, told, put, refused, shown, seen}
+use Rattle.zone_rows.proofs.RowWords.{op_as, ann, bob, cat, dan, draft, typed, op_of, create, create_under, create_bound, update, delete, force_delete, invited, create_share, set_participants, set_public, made, asked_by, asks, accepts, told_ann, told, put, refused, shown, seen}
 
 abbrev a : List ℕ
 a = codes "a"
@@ -70,7 +70,7 @@ module _ (v w u : Value) where
 
   -- its fields after a put gives these
   abbrev fields_after : OpKind → List (List ℕ × Option Value) → Option (List (List ℕ × Value))
-  fields_after kind wishes = option_map (λ (row : Record). row.fields) (written_over (record { kind = kind; draft = record (draft a) { fields = wishes }; guid = [] }) (Some filled))
+  fields_after kind wishes = option_map (λ (row : Record). row.fields) (written_over (op_as kind (record (draft a) { fields = wishes })) (Some filled))
 
   pub an_update_keeps_other_fields : fields_after Update ((m, Some u) ∷ []) ≡ Some ((m, u) ∷ (n, w) ∷ [])
   an_update_keeps_other_fields = refl
@@ -108,7 +108,7 @@ pub another_there_is_lawful : are_lawful [] (asks one_there (create k ∷ [])) �
 unfolding digits
 another_there_is_lawful = refl
 
-pub another_type_is_no_update : told_ann one_there (record { kind = Update; draft = record (draft a) { tag = Some (decimal 1); rtype = Some (codes "U") } } ∷ []) ≡ refused BadRequest ∷ []
+pub another_type_is_no_update : told_ann one_there (op_as Update (record (draft a) { tag = Some (decimal 1); rtype = Some (codes "U") }) ∷ []) ≡ refused BadRequest ∷ []
 unfolding digits
 another_type_is_no_update = refl
 
@@ -116,7 +116,7 @@ pub a_record_has_no_public_permission : told_ann made (op_of (record (typed a) {
 unfolding digits
 a_record_has_no_public_permission = refl
 
-pub a_default_zone_has_no_share : told (modified (record { user = ann; scope = Private; key = record { owner = ann; zone = default_zone } }) 1000 [] true (create r ∷ create_share s r 1 [] ∷ []) (link ∷ [])) ≡ put r 1 ∷ refused BadRequest ∷ []
+pub a_default_zone_has_no_share : told (modified (record { user = ann; scope = Private; key = record { owner = ann; zone = default_zone } }) 1000 [] true (create r ∷ create_share s r 1 [] ∷ [])) ≡ put r 1 ∷ refused BadRequest ∷ []
 unfolding digits
 a_default_zone_has_no_share = refl
 
@@ -154,8 +154,8 @@ a_root_is_shown_without_the_share_that_goes = refl
 
 -- ---- who is listed
 
-abbrev listed : PartKind → List ℕ → Op
-listed kind u = record { kind = Update; draft = record (draft s) { tag = Some (decimal 3); participants = Some (record { user = u; kind = kind; permission = ReadOnly } ∷ []) } }
+abbrev listed : PartKind → List ℕ → NamedOp
+listed kind u = op_as Update (record (draft s) { tag = Some (decimal 3); participants = Some (record { user = u; kind = kind; permission = ReadOnly } ∷ []) })
 
 abbrev opened : List Commit
 opened = asks shared (set_public s ReadOnly ∷ [])
@@ -210,11 +210,11 @@ a_writer_makes_no_root_and_changes_no_share = refl
 
 -- ---- which of two comes first
 
-pub a_conflict_before_the_form : told_ann (asks one_there (create k ∷ [])) (record { kind = Update; draft = record (draft a) { tag = Some (decimal 7); parent = To k } } ∷ []) ≡ shown Conflict a 1 ∷ []
+pub a_conflict_before_the_form : told_ann (asks one_there (create k ∷ [])) (op_as Update (record (draft a) { tag = Some (decimal 7); parent = To k }) ∷ []) ≡ shown Conflict a 1 ∷ []
 unfolding digits
 a_conflict_before_the_form = refl
 
-pub the_form_before_the_permission : told (asked_by bob Shared reading false (record { kind = Update; draft = record (draft r) { tag = Some (decimal 2); rtype = Some (codes "U") } } ∷ [])) ≡ refused BadRequest ∷ []
+pub the_form_before_the_permission : told (asked_by bob Shared reading false (op_as Update (record (draft r) { tag = Some (decimal 2); rtype = Some (codes "U") }) ∷ [])) ≡ refused BadRequest ∷ []
 unfolding digits
 the_form_before_the_permission = refl
 

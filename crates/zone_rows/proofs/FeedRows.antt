@@ -9,7 +9,7 @@ use Rattle.ck_base.specs.declared.scope.Scope.TheVariants.{Private, Shared}
 use Rattle.zone_model.specs.declared.commits.Act.TheVariants.{MakeZone, DropZone}
 use Rattle.zone_model.specs.declared.commits.Commit.{Commit}
 use Rattle.zone_model.specs.ZoneFeed.{ChangedZone, feed_page}
-use Rattle.zone_model.specs.Lawful.{are_lawful}
+use Rattle.zone_laws.specs.LawfulTests.{are_lawful}
 use Rattle.zone_rows.proofs.RowWords.{ann, bob, notes, act_at, made}
 use Rattle.zone_rows.proofs.Rows.{revoked}
 

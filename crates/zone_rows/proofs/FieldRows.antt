@@ -9,15 +9,15 @@ use Rattle.record_model.specs.ValueSizes.{size, size_step}
 use Rattle.record_model.specs.declared.records.Record.{Record}
 use Rattle.zone_model.specs.declared.operations.OpKind.{OpKind}
 use Rattle.zone_model.specs.declared.operations.OpKind.TheVariants.{Update, ForceUpdate, Replace, ForceReplace}
-use Rattle.zone_model.specs.declared.operations.Op.{Op}
+use Rattle.zone_model.specs.Requests.{NamedOp}
 use Rattle.zone_model.specs.declared.commits.Act.TheVariants.{Writes}
 use Rattle.zone_model.specs.declared.commits.Write.TheVariants.{Put}
 use Rattle.zone_model.specs.declared.commits.Commit.{Commit}
 use Rattle.zone_model.specs.References.{references_in, level_references}
 use Rattle.zone_model.specs.Records.{record_at}
 use Rattle.zone_model.specs.Zones.{zone_at}
-use Rattle.zone_model.specs.Lawful.{are_lawful}
-use Rattle.zone_rows.proofs.RowWords.{notes, draft, typed, op_of, act, made, asks, told_ann, put}
+use Rattle.zone_laws.specs.LawfulTests.{are_lawful}
+use Rattle.zone_rows.proofs.RowWords.{op_as, notes, draft, typed, op_of, act, made, asks, told_ann, put}
 use Rattle.zone_rows.proofs.RowRecords.{a, k, m, row}
 
 -- a text has no references, and a size: neither computes by itself
@@ -48,14 +48,14 @@ unfolding digits
 filled_is_lawful = rw (text_size (codes "1"), text_size (codes "2")) refl
 
 -- a put of a that gives these fields
-abbrev giving : OpKind → Option (List ℕ) → List (List ℕ × Option Value) → List Op
-giving kind tag wishes = record { kind = kind; draft = record (draft a) { tag = tag; fields = wishes } } ∷ []
+abbrev giving : OpKind → Option (List ℕ) → List (List ℕ × Option Value) → List NamedOp
+giving kind tag wishes = op_as kind (record (draft a) { tag = tag; fields = wishes }) ∷ []
 
 -- the fields of a record, and those of a after such a put
 abbrev fields_of : List ℕ → List Commit → Option (List (List ℕ × Value))
 fields_of name log = option_map (λ (kept : Record). kept.fields) (record_at (zone_at log notes).rows name)
 
-abbrev fields_after : List Op → Option (List (List ℕ × Value))
+abbrev fields_after : List NamedOp → Option (List (List ℕ × Value))
 fields_after ops = fields_of a (asks filled ops)
 
 -- ---- forced, without a tag
@@ -72,7 +72,7 @@ pub a_forced_replace_is_lawful : are_lawful [] (asks filled (giving ForceReplace
 unfolding digits
 a_forced_replace_is_lawful = rw (text_size (codes "1"), text_size (codes "2")) refl
 
-pub a_forced_replace_makes_a_record : told_ann made (record { kind = ForceReplace; draft = record (draft k) { rtype = Some (codes "T") } } ∷ []) ≡ put k 1 ∷ []
+pub a_forced_replace_makes_a_record : told_ann made (op_as ForceReplace (record (draft k) { rtype = Some (codes "T") }) ∷ []) ≡ put k 1 ∷ []
 unfolding digits
 a_forced_replace_makes_a_record = refl
 

@@ -8,13 +8,13 @@ use Rattle.share_records.specs.declared.participant.Wanted.{Wanted}
 use Rattle.share_records.specs.declared.share.Share.{Share as ShareOf}
 use Rattle.record_model.specs.declared.draft.Draft.{Draft}
 use Rattle.zone_model.specs.declared.operations.OpKind.TheVariants.{Update}
-use Rattle.zone_model.specs.declared.operations.Op.{Op}
+use Rattle.zone_model.specs.Requests.{NamedOp}
 use Rattle.zone_model.specs.declared.outcomes.OpFault.TheVariants.{BadRequest}
 use Rattle.zone_model.specs.declared.commits.Commit.{Commit}
 use Rattle.zone_model.specs.Records.{record_at, share_of}
 use Rattle.zone_model.specs.Zones.{zone_at}
-use Rattle.zone_model.specs.Lawful.{are_lawful}
-use Rattle.zone_rows.proofs.RowWords.{bob, cat, notes, draft, typed, op_of, create, create_share, set_participants, invited, made, asks, told_ann, put, refused}
+use Rattle.zone_laws.specs.LawfulTests.{are_lawful}
+use Rattle.zone_rows.proofs.RowWords.{op_as, bob, cat, notes, draft, typed, op_of, create, create_share, set_participants, invited, made, asks, told_ann, put, refused}
 use Rattle.zone_rows.proofs.RowRecords.{a, r, s}
 
 -- ---- who is listed
@@ -85,8 +85,8 @@ pub one_is_lawful : are_lawful [] one ≡ true
 unfolding digits
 one_is_lawful = refl
 
-abbrev update_by : Draft → Op
-update_by given = record { kind = Update; draft = record given { tag = Some (decimal 1) } }
+abbrev update_by : Draft → NamedOp
+update_by given = op_as Update (record given { tag = Some (decimal 1) })
 
 pub a_new_record_has_no_participants : told_ann made (op_of (record (typed a) { participants = Some [] }) ∷ []) ≡ refused BadRequest ∷ []
 unfolding digits

@@ -7,7 +7,7 @@ use Rattle.record_model.specs.declared.value.Value.{Value}
 use Rattle.record_model.specs.declared.value.Value.TheVariants.{Reference}
 use Rattle.record_model.specs.declared.records.Record.{Record}
 use Rattle.share_records.specs.declared.permission.Permission.TheVariants.{Nothing, ReadWrite}
-use Rattle.zone_model.specs.declared.operations.Op.{Op}
+use Rattle.zone_model.specs.Requests.{NamedOp}
 use Rattle.zone_model.specs.declared.outcomes.OpFault.TheVariants.{NotFound}
 use Rattle.zone_model.specs.declared.outcomes.Outcome.TheVariants.{Put as PutTold, Deleted, Refused}
 use Rattle.zone_model.specs.declared.commits.Act.TheVariants.{Writes}
@@ -23,13 +23,14 @@ use Rattle.zone_model.specs.Cascade.{due, removed_names}
 use Rattle.zone_model.specs.Effect.{Request, after_puts, commits_with, writes}
 use Rattle.zone_model.specs.Modifying.{request_at, judgement_at, effect_at}
 use Rattle.zone_model.specs.Events.{log_of}
-use Rattle.zone_model.specs.Legal.{is_legal}
+use Rattle.zone_laws.specs.LawfulTests.{is_legal}
 use Rattle.board_model.specs.declared.parts.Part.{Part}
 use Rattle.board_model.specs.declared.parts.Part.TheVariants.{Modify}
 use Rattle.board_model.specs.declared.answers.Answer.{Answer}
 use Rattle.board_model.specs.declared.answers.Answer.TheVariants.{Modify as ModifyAnswer}
 use Rattle.board_model.specs.Sights.{OpSight, Sight, modifying, viewing, op_sight}
 use Rattle.board_model.specs.Asks.{sight, answer}
+use Rattle.zone_laws.specs.MeantRequests.{as_given}
 use Rattle.zone_rows.proofs.RowWords.{bob, notes, update, delete, act, made, tags}
 use Rattle.zone_rows.proofs.RowRecords.{a, k, m, r, s, x, row, marked, member, share_row}
 use Rattle.zone_rows.proofs.ReferenceRows.{to, references_to, size_to, by_bob, judged_effect, effect_from}
@@ -60,10 +61,10 @@ lent_is_legal = rw (size_to (to DeleteSelf a)) refl
 
 -- ---- what bob asks
 
-abbrev first : List Op
+abbrev first : List NamedOp
 first = delete a 1 ∷ []
 
-abbrev second : List Op
+abbrev second : List NamedOp
 second = update m 1 ∷ []
 
 pub no_view_changes : view_of (log_of (lent_later to_a)) bob Shared notes ≡ view_of (log_of lent) bob Shared notes
@@ -73,7 +74,7 @@ pub no_past_changes : name_history (log_of (lent_later to_a)) notes (first ++ se
 no_past_changes = refl
 
 abbrev in_turn : Part
-in_turn = Modify bob Shared notes false (first ++ second) 1000 []
+in_turn = Modify bob Shared notes false (map as_given (first ++ second)) 1000 []
 
 -- the names and tags that are seen before each operation
 abbrev each_seen : Sight → List (List (List ℕ × ℕ))
@@ -100,7 +101,7 @@ m_is_changed = refl
 -- ---- and what behind it: k goes with a, m with k, and x with m
 
 abbrev asked : Request
-asked = request_at by_bob 1000 (log_of (lent_later to_a)) first []
+asked = request_at by_bob 1000 (log_of (lent_later to_a)) first
 
 -- the rounds of the cascade
 module _ (v : Value) (is : references_in v ≡ to DeleteSelf a ∷ []) where
@@ -140,9 +141,9 @@ written : commits_with asked (writes asked (a ∷ k ∷ m ∷ x ∷ [])) ≡ rem
 unfolding digits
 written = refl
 
-pub all_go : effect_at by_bob 1000 (log_of (lent_later to_a)) first [] ≡ removal
+pub all_go : effect_at by_bob 1000 (log_of (lent_later to_a)) first ≡ removal
 all_go =
-    judged_effect by_bob 1000 (log_of (lent_later to_a)) first [] (None ∷ []) judged refl
+    judged_effect by_bob 1000 (log_of (lent_later to_a)) first (None ∷ []) judged refl
     ∙ effect_from asked (rows_with (bound_k to_a)) (a ∷ []) (a ∷ k ∷ m ∷ x ∷ []) no_puts a_is_taken (these_go to_a (references_to (to DeleteSelf a)))
     ∙ written
 
@@ -162,5 +163,5 @@ unfolding digits
 m_is_not_found = ap (λ commits. answer 0 (sight_behind commits) in_turn) all_go
 
 -- judged as one, nothing is told of it
-pub as_one_it_is_the_same : sight 0 (lent_later to_a) (Modify bob Shared notes true (first ++ second) 1000 []) ≡ sight 0 lent (Modify bob Shared notes true (first ++ second) 1000 [])
+pub as_one_it_is_the_same : sight 0 (lent_later to_a) (Modify bob Shared notes true (map as_given (first ++ second)) 1000 []) ≡ sight 0 lent (Modify bob Shared notes true (map as_given (first ++ second)) 1000 [])
 as_one_it_is_the_same = refl

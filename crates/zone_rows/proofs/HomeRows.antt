@@ -11,7 +11,7 @@ use Rattle.zone_model.specs.declared.commits.Commit.{Commit}
 use Rattle.zone_model.specs.Views.{view_of}
 use Rattle.zone_model.specs.ZoneFeed.{feed_page}
 use Rattle.zone_model.specs.Modifying.{modified}
-use Rattle.zone_model.specs.Lawful.{are_lawful}
+use Rattle.zone_laws.specs.LawfulTests.{are_lawful}
 use Rattle.zone_rows.proofs.RowWords.{ann, bob, create, update, act_at, tags, feed_of}
 use Rattle.zone_rows.proofs.RowRecords.{a}
 
@@ -20,7 +20,7 @@ home = own_default ann
 
 -- a is made and changed in ann's default zone
 abbrev at_home : List Commit
-at_home = (modified (record { user = ann; scope = Private; key = home }) 1000 [] false (create a ∷ update a 1 ∷ []) []).commits
+at_home = (modified (record { user = ann; scope = Private; key = home }) 1000 [] false (create a ∷ update a 1 ∷ [])).commits
 
 pub at_home_is_lawful : are_lawful [] at_home ≡ true
 unfolding digits

@@ -5,7 +5,7 @@ use Rattle.zone_model.specs.declared.commits.Act.TheVariants.{MakeZone, DropZone
 use Rattle.zone_model.specs.declared.commits.Write.{Write}
 use Rattle.zone_model.specs.declared.commits.Write.TheVariants.{Put, Remove, PutRemove}
 use Rattle.zone_model.specs.declared.commits.Commit.{Commit}
-use Rattle.zone_model.specs.Lawful.{are_lawful}
+use Rattle.zone_laws.specs.LawfulTests.{are_lawful}
 use Rattle.zone_rows.proofs.RowWords.{ann, act_at, act, made}
 use Rattle.zone_rows.proofs.RowRecords.{a, b, d, k, row}
 

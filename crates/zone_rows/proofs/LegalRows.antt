@@ -7,7 +7,7 @@ use Rattle.zone_model.specs.declared.commits.Write.TheVariants.{Put}
 use Rattle.zone_model.specs.declared.commits.Commit.{Commit}
 use Rattle.zone_model.specs.declared.events.Event.{Event}
 use Rattle.zone_model.specs.declared.events.Event.TheVariants.{Made, StoreFailed}
-use Rattle.zone_model.specs.Legal.{is_legal}
+use Rattle.zone_laws.specs.LawfulTests.{is_legal}
 use Rattle.zone_model.specs.Events.{log_of}
 use Rattle.zone_rows.proofs.RowWords.{ann, act, act_at, made}
 use Rattle.zone_rows.proofs.RowRecords.{a, k, row}

@@ -4,10 +4,10 @@ use Rattle.std.specs.Fmt.{digits}
 use Rattle.ck_base.specs.declared.scope.Scope.TheVariants.{Shared}
 use Rattle.share_records.specs.declared.permission.Permission.{Permission}
 use Rattle.share_records.specs.declared.permission.Permission.TheVariants.{ReadOnly, ReadWrite}
-use Rattle.zone_model.specs.declared.operations.Op.{Op}
+use Rattle.zone_model.specs.Requests.{NamedOp}
 use Rattle.zone_model.specs.declared.outcomes.OpFault.TheVariants.{NotFound, Conflict, AccessDenied, Validating, Atomic}
 use Rattle.zone_model.specs.declared.commits.Commit.{Commit}
-use Rattle.zone_model.specs.Lawful.{are_lawful}
+use Rattle.zone_laws.specs.LawfulTests.{are_lawful}
 use Rattle.zone_rows.proofs.RowWords.{bob, create, create_under, delete, force_delete, invited, create_share, made, asked_by, asks, asks_shared, accepts, told, Told, put, gone, refused, shown}
 use Rattle.zone_rows.proofs.RowRecords.{a, k, m, r, s, x}
 
@@ -30,7 +30,7 @@ unfolding digits
 writing_is_lawful = refl
 
 -- what bob is told in the shared scope
-abbrev told_bob : List Commit → List Op → List Told
+abbrev told_bob : List Commit → List NamedOp → List Told
 told_bob log ops = told (asked_by bob Shared log true ops)
 
 pub a_missing_record_before_its_tag : told_bob reading (delete a 7 ∷ []) ≡ refused NotFound ∷ []

@@ -17,7 +17,7 @@ use Rattle.share_records.specs.declared.participant.PartKind.TheVariants.{Member
 use Rattle.record_model.specs.declared.records.Record.{Record}
 use Rattle.record_model.specs.declared.records.Body.TheVariants.{Plain, Share}
 use Rattle.record_model.specs.declared.draft.ParentWish.TheVariants.{Absent, To}
-use Rattle.zone_model.specs.declared.operations.Op.{Op}
+use Rattle.zone_model.specs.Requests.{NamedOp}
 use Rattle.zone_model.specs.declared.outcomes.OpFault.{OpFault}
 use Rattle.zone_model.specs.declared.outcomes.OpFault.TheVariants.{Validating}
 use Rattle.zone_model.specs.declared.commits.Write.TheVariants.{Put, Remove, PutRemove}
@@ -32,8 +32,8 @@ use Rattle.zone_model.specs.Putting.{no_stamp}
 use Rattle.zone_model.specs.Cascade.{due, removed_names}
 use Rattle.zone_model.specs.Effect.{Request, after_puts, effect, commits_with, writes}
 use Rattle.zone_model.specs.Modifying.{request_at, judgement_at, effect_at, outcome_of}
-use Rattle.zone_model.specs.Lawful.{are_well_formed, are_lawful}
-use Rattle.zone_laws.proofs.LawfulLaws.{lawful-append, effects_lawful}
+use Rattle.zone_laws.specs.LawfulTests.{are_well_formed, are_lawful}
+use Rattle.zone_laws.proofs.LawfulLaws.{lawful-append, lawful-effect, request_by}
 use Rattle.zone_rows.proofs.RowWords.{ann, bob, notes, create, create_under, create_bound, create_share, update, delete, invited, op_of, share_draft, act, made, link, asked_by, asks, acceptance, accepts, put, gone, refused, told_of, told, seen}
 
 abbrev a : List ℕ
@@ -82,13 +82,13 @@ by_ann = record { user = ann; scope = Private; key = notes }
 abbrev pub by_bob : Caller
 by_bob = record { user = bob; scope = Shared; key = notes }
 
-abbrev asked : Caller → List Commit → List Op → Request
-asked caller log ops = request_at caller 1000 log ops (link ∷ link ∷ [])
+abbrev asked : Caller → List Commit → List NamedOp → Request
+asked caller log ops = request_at caller 1000 log ops
 
 -- where nothing has a fault, the commit is the effect
-pub judged_effect : (caller : Caller) (moment : ℕ) (log : List Commit) (ops : List Op) (guids : List (List ℕ)) (faults : List (Option OpFault))
-    → judgement_at caller moment log ops ≡ faults → has_fault faults ≡ false → effect_at caller moment log ops guids ≡ effect (request_at caller moment log ops guids)
-judged_effect caller moment log ops guids faults judged none = ap (λ b. if b then [] else effect (request_at caller moment log ops guids)) (ap has_fault judged ∙ none)
+pub judged_effect : (caller : Caller) (moment : ℕ) (log : List Commit) (ops : List NamedOp) (faults : List (Option OpFault))
+    → judgement_at caller moment log ops ≡ faults → has_fault faults ≡ false → effect_at caller moment log ops ≡ effect (request_at caller moment log ops)
+judged_effect caller moment log ops faults judged none = ap (λ b. if b then [] else effect (request_at caller moment log ops)) (ap has_fault judged ∙ none)
 
 -- and this comes from the records after the puts and the names that go
 pub effect_from : (q : Request) (rows : List Record) (taken names : List (List ℕ)) → after_puts q ≡ rows → names_taken q.caller q.seen q.ops ≡ taken → removed_names rows taken ≡ names
@@ -128,7 +128,7 @@ bound_rows v = row a None [] ∷ row b (Some a) (field v) ∷ row c (Some b) [] 
 abbrev to_a : Value
 to_a = Reference (to DeleteSelf a)
 
-abbrev bound_ops : List Op
+abbrev bound_ops : List NamedOp
 bound_ops = create a ∷ create_bound b (To a) DeleteSelf a ∷ create_under c b ∷ []
 
 abbrev bound : List Commit
@@ -146,7 +146,7 @@ pub bound_is_made : asks made bound_ops ≡ bound
 unfolding digits
 bound_is_made = ap (λ faults. made ++ (if has_fault faults then [] else effect (asked by_ann made bound_ops))) bound_judged
 
-abbrev delete_a : List Op
+abbrev delete_a : List NamedOp
 delete_a = delete a 1 ∷ []
 
 bound_faults : (v : Value) → references_in v ≡ to DeleteSelf a ∷ [] → faults_of (grounds (bound_rows v) (a ∷ [])) delete_a ≡ None ∷ []
@@ -189,7 +189,7 @@ pub loose_is_lawful : are_lawful [] loose ≡ true
 unfolding digits
 loose_is_lawful = rw (size_to (to DeleteSelf a)) refl
 
-abbrev loose_ops : List Op
+abbrev loose_ops : List NamedOp
 loose_ops = create a ∷ create_bound b Absent DeleteSelf a ∷ create_under c b ∷ []
 
 loose_judged : judgement_at by_ann 1000 made loose_ops ≡ None ∷ None ∷ None ∷ []
@@ -200,7 +200,7 @@ pub loose_is_made : asks made loose_ops ≡ loose
 unfolding digits
 loose_is_made = ap (λ faults. made ++ (if has_fault faults then [] else effect (asked by_ann made loose_ops))) loose_judged
 
-abbrev update_and_delete : List Op
+abbrev update_and_delete : List NamedOp
 update_and_delete = update c 1 ∷ delete a 1 ∷ []
 
 loose_faults : (v : Value) → references_in v ≡ to DeleteSelf a ∷ [] → faults_of (grounds (loose_rows v) (a ∷ [])) update_and_delete ≡ None ∷ None ∷ []
@@ -250,7 +250,7 @@ to_d = Reference (to Validate d)
 abbrev wanting : List Commit
 wanting = made ++ puts_of (wanting_rows to_d) ∷ []
 
-abbrev wanting_ops : List Op
+abbrev wanting_ops : List NamedOp
 wanting_ops = create d ∷ create_bound e Absent Validate d ∷ []
 
 wanting_judged : judgement_at by_ann 1000 made wanting_ops ≡ None ∷ None ∷ []
@@ -304,7 +304,7 @@ to_x = Reference (to DeleteSelf x)
 abbrev first_rows : Value → List Record
 first_rows v = row h None (field v) ∷ row r None [] ∷ row x (Some r) [] ∷ []
 
-abbrev first_ops : List Op
+abbrev first_ops : List NamedOp
 first_ops = create_bound h Absent DeleteSelf x ∷ create r ∷ create_under x r ∷ []
 
 first_judged : judgement_at by_ann 1000 made first_ops ≡ None ∷ None ∷ None ∷ []
@@ -369,10 +369,10 @@ hidden_written : commits_with (asked by_bob (covered to_x) (delete x 1 ∷ [])) 
 unfolding digits
 hidden_written = refl
 
-pub hidden_goes : effect_at by_bob 1000 (covered to_x) (delete x 1 ∷ []) (link ∷ link ∷ [])
+pub hidden_goes : effect_at by_bob 1000 (covered to_x) (delete x 1 ∷ [])
     ≡ record { key = notes; user = bob; moment = 1000; act = Writes (Remove h ∷ Remove x ∷ []) } ∷ []
 hidden_goes =
-    judged_effect by_bob 1000 (covered to_x) (delete x 1 ∷ []) (link ∷ link ∷ []) (None ∷ []) hidden_judged refl
+    judged_effect by_bob 1000 (covered to_x) (delete x 1 ∷ []) (None ∷ []) hidden_judged refl
     ∙ effect_from (asked by_bob (covered to_x) (delete x 1 ∷ [])) (covered_rows to_x) (x ∷ []) (h ∷ x ∷ []) hidden_after hidden_taken (hidden_removed to_x (references_to (to DeleteSelf x)))
     ∙ hidden_written
 
@@ -394,13 +394,13 @@ covered_lawful : are_lawful [] (covered to_x) ≡ true
 unfolding digits
 covered_lawful = lawful-append [] (shared_first to_x) (acceptance (shared_first to_x) bob s)
     (lawful-append [] (first to_x) (asked_by ann Private (first to_x) true (create_share s r 1 (invited bob ReadWrite ∷ []) ∷ [])).commits first_lawful
-    (effects_lawful.requests by_ann 1000 (first to_x) true (create_share s r 1 (invited bob ReadWrite ∷ []) ∷ []) (link ∷ link ∷ []) first_lawful refl refl))
+    (request_by true by_ann 1000 (first to_x) (create_share s r 1 (invited bob ReadWrite ∷ []) ∷ []) first_lawful refl refl))
     (acceptance_lawful to_x (size_to (to DeleteSelf x)))
 
 pub hidden_goes_lawfully : are_lawful [] (covered to_x ++ record { key = notes; user = bob; moment = 1000; act = Writes (Remove h ∷ Remove x ∷ []) } ∷ []) ≡ true
 unfolding digits
 hidden_goes_lawfully = lawful-append [] (covered to_x) (record { key = notes; user = bob; moment = 1000; act = Writes (Remove h ∷ Remove x ∷ []) } ∷ []) covered_lawful
-    (subst (λ cs. are_lawful (covered to_x) cs ≡ true) hidden_goes (effects_lawful.as_one by_bob 1000 (covered to_x) (delete x 1 ∷ []) (link ∷ link ∷ []) covered_lawful refl refl))
+    (subst (λ cs. are_lawful (covered to_x) cs ≡ true) hidden_goes (lawful-effect by_bob 1000 (covered to_x) (delete x 1 ∷ []) covered_lawful refl refl))
 
 -- ---- a new share that goes with a removal, whose root stays
 
@@ -414,7 +414,7 @@ pub two_are_lawful : are_lawful [] two ≡ true
 unfolding digits
 two_are_lawful = refl
 
-abbrev share_and_delete : List Op
+abbrev share_and_delete : List NamedOp
 share_and_delete = op_of (record (share_draft s r (Some (codes "1")) []) { fields = (codes "f", Some to_d_too) ∷ [] }) ∷ delete d 1 ∷ []
 
 abbrev shared_rows : Value → List Record
@@ -450,10 +450,10 @@ share_written : commits_with (asked by_ann two share_and_delete) (writes (asked 
 unfolding digits
 share_written = refl
 
-pub share_goes : effect_at by_ann 1000 two share_and_delete (link ∷ link ∷ []) ≡ act (Writes (Remove d ∷ Put root_written ∷ PutRemove s ∷ [])) ∷ []
+pub share_goes : effect_at by_ann 1000 two share_and_delete ≡ act (Writes (Remove d ∷ Put root_written ∷ PutRemove s ∷ [])) ∷ []
 unfolding digits
 share_goes =
-    judged_effect by_ann 1000 two share_and_delete (link ∷ link ∷ []) (None ∷ None ∷ []) share_judged refl
+    judged_effect by_ann 1000 two share_and_delete (None ∷ None ∷ []) share_judged refl
     ∙ effect_from (asked by_ann two share_and_delete) (shared_rows to_d_too) (d ∷ []) (d ∷ s ∷ []) refl refl (share_removed to_d_too (references_to (to DeleteSelf d)))
     ∙ share_written
 

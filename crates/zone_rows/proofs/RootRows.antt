@@ -6,14 +6,14 @@ use Rattle.ck_base.specs.KnownNames.{own_default}
 use Rattle.ck_base.specs.declared.scope.Scope.TheVariants.{Private, Shared}
 use Rattle.share_records.specs.declared.permission.Permission.TheVariants.{Nothing, ReadWrite}
 use Rattle.record_model.specs.declared.draft.ParentWish.TheVariants.{To}
-use Rattle.zone_model.specs.declared.operations.Op.{Op}
+use Rattle.zone_model.specs.Requests.{NamedOp}
 use Rattle.zone_model.specs.declared.outcomes.OpFault.TheVariants.{BadRequest, AccessDenied, Validating, Atomic}
 use Rattle.zone_model.specs.declared.commits.Act.TheVariants.{Writes}
 use Rattle.zone_model.specs.declared.commits.Write.{Write}
 use Rattle.zone_model.specs.declared.commits.Write.TheVariants.{Put}
 use Rattle.zone_model.specs.declared.commits.Commit.{Commit}
 use Rattle.zone_model.specs.Modifying.{modified}
-use Rattle.zone_model.specs.Lawful.{are_lawful}
+use Rattle.zone_laws.specs.LawfulTests.{are_lawful}
 use Rattle.zone_rows.proofs.RowWords.{ann, bob, op_of, share_draft, create_under, update, delete, create_share, act, act_at, made, asked_by, told_ann, Told, told, put, gone, refused}
 use Rattle.zone_rows.proofs.RowRecords.{a, k, m, r, s, x, row, marked, member, share_row, marks}
 
@@ -28,7 +28,7 @@ log = made ++ act (Writes (Put (row a 1 None) ∷ sharing ++ Put (row x 1 (Some 
 pub log_is_lawful : are_lawful [] log ≡ true
 log_is_lawful = refl
 
-abbrev told_bob : List Op → List Told
+abbrev told_bob : List NamedOp → List Told
 told_bob ops = told (asked_by bob Shared log true ops)
 
 -- ---- roots
@@ -81,8 +81,8 @@ home = act_at (own_default ann) (Writes sharing) ∷ []
 pub home_is_lawful : are_lawful [] home ≡ true
 home_is_lawful = refl
 
-abbrev told_home : List Op → List Told
-told_home ops = told (modified (record { user = ann; scope = Private; key = own_default ann }) 1000 home true ops [])
+abbrev told_home : List NamedOp → List Told
+told_home ops = told (modified (record { user = ann; scope = Private; key = own_default ann }) 1000 home true ops)
 
 pub a_share_is_not_put_at_home : told_home (update s 1 ∷ []) ≡ refused BadRequest ∷ []
 unfolding digits

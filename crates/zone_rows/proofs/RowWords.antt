@@ -1,5 +1,5 @@
 -- Words for the worked rows: users, zones, operations, and what the rows tell.
-use Rattle.std.specs.Prelude.{ℕ, suc, Bool, true, ◌||◌, List, [], ◌∷◌, ◌++◌, map, Option, Some, None, codes, decimal, is_some, option_map, option_and_then, if◌then◌else◌}
+use Rattle.std.specs.Prelude.{ℕ, suc, Bool, true, ◌||◌, List, [], ◌∷◌, ◌++◌, map, Option, Some, None, codes, decimal, is_some, unwrap_or, option_map, option_and_then, if◌then◌else◌}
 use Rattle.std.specs.Option.{option_map_or}
 use Rattle.ck_base.specs.declared.key.ZoneKey.{ZoneKey}
 use Rattle.ck_base.specs.declared.scope.Scope.{Scope}
@@ -15,8 +15,9 @@ use Rattle.record_model.specs.declared.draft.Draft.{Draft}
 use Rattle.record_model.specs.declared.draft.ParentWish.{ParentWish}
 use Rattle.record_model.specs.declared.records.Body.TheVariants.{Share}
 use Rattle.record_model.specs.declared.records.Record.{Record}
+use Rattle.zone_model.specs.declared.operations.OpKind.{OpKind}
 use Rattle.zone_model.specs.declared.operations.OpKind.TheVariants.{Create, Update, ForceUpdate, Delete, ForceDelete}
-use Rattle.zone_model.specs.declared.operations.Op.{Op}
+use Rattle.zone_model.specs.Requests.{NamedOp}
 use Rattle.zone_model.specs.declared.outcomes.OpFault.{OpFault}
 use Rattle.zone_model.specs.declared.outcomes.Outcome.{Outcome}
 use Rattle.zone_model.specs.declared.outcomes.Outcome.TheVariants.{Put, Deleted, Refused}
@@ -58,37 +59,44 @@ notes = record { owner = ann; zone = codes "Notes" }
 
 -- ---- operations
 
+abbrev pub link : List ℕ
+link = codes "600000000000000000000000000000001"
+
 abbrev pub draft : List ℕ → Draft
 draft x = record { name = Some x; rtype = None; tag = None; parent = ParentWish.Absent; fields = []; for_root = None; public = None; participants = None }
 
 abbrev pub typed : List ℕ → Draft
 typed x = record (draft x) { rtype = Some (codes "T") }
 
-abbrev pub op_of : Draft → Op
-op_of d = record { kind = Create; draft = d }
+-- an operation with the name that it gives, and with this link for the share that it begins
+abbrev pub op_as : OpKind → Draft → NamedOp
+op_as kind d = record { kind = kind; draft = d; name = unwrap_or d.name []; guid = link }
 
-abbrev pub create : List ℕ → Op
+abbrev pub op_of : Draft → NamedOp
+op_of d = op_as Create d
+
+abbrev pub create : List ℕ → NamedOp
 create x = op_of (typed x)
 
-abbrev pub create_under : List ℕ → List ℕ → Op
+abbrev pub create_under : List ℕ → List ℕ → NamedOp
 create_under x p = op_of (record (typed x) { parent = ParentWish.To p })
 
 -- a record with a reference, perhaps under a parent
-abbrev pub create_bound : List ℕ → ParentWish → Action → List ℕ → Op
+abbrev pub create_bound : List ℕ → ParentWish → Action → List ℕ → NamedOp
 create_bound x parent action target =
     op_of (record (typed x) { parent = parent; fields = (codes "f", Some (Reference (record { name = target; action = action }))) ∷ [] })
 
-abbrev pub update : List ℕ → ℕ → Op
-update x tag = record { kind = Update; draft = record (draft x) { tag = Some (decimal tag) } }
+abbrev pub update : List ℕ → ℕ → NamedOp
+update x tag = op_as Update (record (draft x) { tag = Some (decimal tag) })
 
-abbrev pub update_with : List ℕ → ℕ → ParentWish → Op
-update_with x tag parent = record { kind = Update; draft = record (draft x) { tag = Some (decimal tag); parent = parent } }
+abbrev pub update_with : List ℕ → ℕ → ParentWish → NamedOp
+update_with x tag parent = op_as Update (record (draft x) { tag = Some (decimal tag); parent = parent })
 
-abbrev pub delete : List ℕ → ℕ → Op
-delete x tag = record { kind = Delete; draft = record (draft x) { tag = Some (decimal tag) } }
+abbrev pub delete : List ℕ → ℕ → NamedOp
+delete x tag = op_as Delete (record (draft x) { tag = Some (decimal tag) })
 
-abbrev pub force_delete : List ℕ → Op
-force_delete x = record { kind = ForceDelete; draft = draft x }
+abbrev pub force_delete : List ℕ → NamedOp
+force_delete x = op_as ForceDelete (draft x)
 
 abbrev pub invited : List ℕ → Permission → Wanted
 invited u permission = record { user = u; kind = PartKind.Member; permission = permission }
@@ -97,14 +105,14 @@ abbrev pub share_draft : List ℕ → List ℕ → Option (List ℕ) → List Wa
 share_draft x root tag wanted =
     record (draft x) { rtype = Some (codes "cloudkit.share"); for_root = Some (record { name = root; tag = tag }); participants = Some wanted }
 
-abbrev pub create_share : List ℕ → List ℕ → ℕ → List Wanted → Op
+abbrev pub create_share : List ℕ → List ℕ → ℕ → List Wanted → NamedOp
 create_share x root tag wanted = op_of (share_draft x root (Some (decimal tag)) wanted)
 
-abbrev pub set_participants : List ℕ → List Wanted → Op
-set_participants x wanted = record { kind = ForceUpdate; draft = record (draft x) { participants = Some wanted } }
+abbrev pub set_participants : List ℕ → List Wanted → NamedOp
+set_participants x wanted = op_as ForceUpdate (record (draft x) { participants = Some wanted })
 
-abbrev pub set_public : List ℕ → Permission → Op
-set_public x permission = record { kind = ForceUpdate; draft = record (draft x) { public = Some permission } }
+abbrev pub set_public : List ℕ → Permission → NamedOp
+set_public x permission = op_as ForceUpdate (record (draft x) { public = Some permission })
 
 -- ---- logs
 
@@ -122,17 +130,14 @@ last_of (c ∷ d ∷ log) = last_of (d ∷ log)
 abbrev pub made : List Commit
 made = act MakeZone ∷ []
 
-abbrev pub link : List ℕ
-link = codes "600000000000000000000000000000001"
-
-abbrev pub asked_by : List ℕ → Scope → List Commit → Bool → List Op → Modified
-asked_by u scope log atomic ops = modified (record { user = u; scope = scope; key = notes }) 1000 log atomic ops (link ∷ link ∷ [])
+abbrev pub asked_by : List ℕ → Scope → List Commit → Bool → List NamedOp → Modified
+asked_by u scope log atomic ops = modified (record { user = u; scope = scope; key = notes }) 1000 log atomic ops
 
 -- the log with what ann's request makes, and with what another user's makes in the shared scope
-abbrev pub asks : List Commit → List Op → List Commit
+abbrev pub asks : List Commit → List NamedOp → List Commit
 asks log ops = log ++ (asked_by ann Private log true ops).commits
 
-abbrev pub asks_shared : List Commit → List ℕ → List Op → List Commit
+abbrev pub asks_shared : List Commit → List ℕ → List NamedOp → List Commit
 asks_shared log u ops = log ++ (asked_by u Shared log true ops).commits
 
 -- the list of a share after a user accepted it: one who is named is then in, and a stranger by its public permission
@@ -192,7 +197,7 @@ abbrev pub entries_of : List Commit → List ℕ → Scope → List (List ℕ)
 entries_of log u scope = entries (views_of log u scope notes)
 
 -- what ann's request is told
-abbrev pub told_ann : List Commit → List Op → List Told
+abbrev pub told_ann : List Commit → List NamedOp → List Told
 told_ann log ops = told (asked_by ann Private log true ops)
 
 -- an item as a name with its tag, or with 0 where it is gone

@@ -12,7 +12,7 @@ use Rattle.ck_base.specs.declared.key.ZoneKey.{ZoneKey}
 use Rattle.record_model.specs.declared.subscription.Fires.{Fires}
 use Rattle.record_model.specs.declared.subscription.SubKind.{SubKind}
 use Rattle.record_model.specs.declared.subscription.Subscription.{Subscription}
-use Rattle.zone_model.specs.declared.operations.Op.{Op}
+use Rattle.zone_model.specs.Requests.{NamedOp}
 use Rattle.zone_model.specs.declared.outcomes.OpFault.TheVariants.{Exists, NotFound, Conflict, BadRequest, AccessDenied, Validating, Atomic}
 use Rattle.zone_model.specs.declared.commits.Act.{Act}
 use Rattle.zone_model.specs.declared.commits.Act.TheVariants.{MakeZone, DropZone, SetSubscription, DropSubscription}
@@ -26,7 +26,7 @@ use Rattle.zone_model.specs.Zones.{zone_at}
 use Rattle.zone_model.specs.Views.{view_of, views_of, was_seen}
 use Rattle.zone_model.specs.Pages.{page}
 use Rattle.zone_laws.specs.Copies.{fold_page}
-use Rattle.zone_model.specs.Lawful.{are_lawful}
+use Rattle.zone_laws.specs.LawfulTests.{are_lawful}
 use Rattle.zone_model.specs.WorkBounds.{commit_bound}
 use Rattle.zone_rows.proofs.RowWords.{ann, bob, cat, dan, notes, create, create_under, update, update_with, delete, force_delete, invited, create_share, set_participants, set_public, act, made, link, asked_by, asks, asks_shared, acceptance, accepts, permission_at, entries_of, told_ann, put, gone, refused, shown, told, seen, page_of, feed_of, op_of, draft, share_draft, act_at, last_of}
 
@@ -87,7 +87,7 @@ pub three_is_lawful : are_lawful [] three ≡ true
 unfolding digits
 three_is_lawful = refl
 
-abbrev one_stale : List Op
+abbrev one_stale : List NamedOp
 one_stale = update a 1 ∷ update b 0 ∷ update c 1 ∷ []
 
 pub all_are_refused : told (asked_by ann Private three true one_stale) ≡ refused Atomic ∷ shown Conflict b 1 ∷ refused Atomic ∷ []
@@ -310,7 +310,7 @@ acceptance_is_bounded = refl
 
 -- ---- a share with its root and a child in one request
 
-abbrev at_once : List Op
+abbrev at_once : List NamedOp
 at_once = create_under k r ∷ op_of (share_draft s r None (invited bob ReadWrite ∷ [])) ∷ create r ∷ []
 
 pub all_at_once : told (asked_by ann Private made true at_once) ≡ put k 1 ∷ put s 1 ∷ put r 1 ∷ []
@@ -356,7 +356,7 @@ abbrev at_home : Caller
 at_home = record { user = ann; scope = Private; key = home }
 
 abbrev two_at_home : List Commit
-two_at_home = (modified at_home 1000 [] true (create a ∷ create b ∷ []) []).commits
+two_at_home = (modified at_home 1000 [] true (create a ∷ create b ∷ [])).commits
 
 pub two_at_home_are_lawful : are_lawful [] two_at_home ≡ true
 unfolding digits
@@ -366,15 +366,15 @@ pub each_is_a_commit : length two_at_home ≡ 2
 unfolding digits
 each_is_a_commit = refl
 
-pub one_alone_is_refused : told (modified at_home 1000 two_at_home true (update a 1 ∷ update b 0 ∷ []) []) ≡ put a 2 ∷ shown Conflict b 1 ∷ []
+pub one_alone_is_refused : told (modified at_home 1000 two_at_home true (update a 1 ∷ update b 0 ∷ [])) ≡ put a 2 ∷ shown Conflict b 1 ∷ []
 unfolding digits
 one_alone_is_refused = refl
 
-pub home_is_lawful : are_lawful [] (two_at_home ++ (modified at_home 1000 two_at_home true (update a 1 ∷ update b 0 ∷ []) []).commits) ≡ true
+pub home_is_lawful : are_lawful [] (two_at_home ++ (modified at_home 1000 two_at_home true (update a 1 ∷ update b 0 ∷ [])).commits) ≡ true
 unfolding digits
 home_is_lawful = refl
 
-pub no_share_at_home : told (modified at_home 1000 two_at_home true (create_share s a 1 [] ∷ []) (link ∷ [])) ≡ refused BadRequest ∷ []
+pub no_share_at_home : told (modified at_home 1000 two_at_home true (create_share s a 1 [] ∷ [])) ≡ refused BadRequest ∷ []
 unfolding digits
 no_share_at_home = refl
 
@@ -795,7 +795,7 @@ root_deleted_is_lawful = refl
 
 -- ---- a share without its root, and a child of it
 
-abbrev rootless : List Op
+abbrev rootless : List NamedOp
 rootless = op_of (record (draft s) { rtype = Some (codes "cloudkit.share") }) ∷ create_under k s ∷ []
 
 pub a_rootless_share_is_no_parent : told (asked_by ann Private made true rootless) ≡ refused BadRequest ∷ refused Validating ∷ []

@@ -12,14 +12,14 @@ use Rattle.share_records.specs.declared.share.Share.{Share as ShareOf}
 use Rattle.record_model.specs.declared.draft.Draft.{Draft}
 use Rattle.zone_model.specs.declared.operations.OpKind.{OpKind}
 use Rattle.zone_model.specs.declared.operations.OpKind.TheVariants.{Update, Replace, ForceReplace}
-use Rattle.zone_model.specs.declared.operations.Op.{Op}
+use Rattle.zone_model.specs.Requests.{NamedOp}
 use Rattle.zone_model.specs.declared.commits.Act.TheVariants.{Writes}
 use Rattle.zone_model.specs.declared.commits.Write.TheVariants.{Put}
 use Rattle.zone_model.specs.declared.commits.Commit.{Commit}
 use Rattle.zone_model.specs.Records.{record_at, share_of}
 use Rattle.zone_model.specs.Zones.{zone_at}
-use Rattle.zone_model.specs.Lawful.{are_lawful}
-use Rattle.zone_rows.proofs.RowWords.{ann, bob, cat, notes, draft, create, update, delete, invited, create_share, set_participants, act, made, asked_by, asks, seen}
+use Rattle.zone_laws.specs.LawfulTests.{are_lawful}
+use Rattle.zone_rows.proofs.RowWords.{op_as, ann, bob, cat, notes, draft, create, update, delete, invited, create_share, set_participants, act, made, asked_by, asks, seen}
 use Rattle.zone_rows.proofs.RowRecords.{r, s, row, marked, member, stranger, share_row, marks}
 
 -- ---- a share as it stands
@@ -48,7 +48,7 @@ people_at log = option_map (λ (t : ShareOf). t.participants) (option_and_then s
 
 -- the log after a put of the share that gives this
 abbrev after : OpKind → Draft → List Commit
-after kind given = asks opened (record { kind = kind; draft = record given { tag = Some (decimal 1) } } ∷ [])
+after kind given = asks opened (op_as kind (record given { tag = Some (decimal 1) }) ∷ [])
 
 abbrev nobody : Draft
 nobody = record (draft s) { participants = Some [] }
@@ -146,7 +146,7 @@ listing_members_is_lawful = refl
 
 -- ---- the share marks that replies show
 
-abbrev marks_shown : List Commit → List Op → List (Option (List ℕ))
+abbrev marks_shown : List Commit → List NamedOp → List (Option (List ℕ))
 marks_shown log ops = marks (asked_by ann Private log true ops).outcomes
 
 pub a_changed_root_shows_its_new_share : marks_shown root (update r 1 ∷ create_share s r 1 [] ∷ []) ≡ Some s ∷ None ∷ []

@@ -6,18 +6,18 @@ use Rattle.record_model.specs.declared.value.Value.{Value}
 use Rattle.record_model.specs.ValueSizes.{size}
 use Rattle.zone_model.specs.declared.operations.OpKind.{OpKind}
 use Rattle.zone_model.specs.declared.operations.OpKind.TheVariants.{Update, Replace}
-use Rattle.zone_model.specs.declared.operations.Op.{Op}
+use Rattle.zone_model.specs.Requests.{NamedOp}
 use Rattle.zone_model.specs.declared.outcomes.OpFault.TheVariants.{BadRequest}
 use Rattle.zone_model.specs.declared.commits.Act.TheVariants.{Writes}
 use Rattle.zone_model.specs.declared.commits.Write.TheVariants.{Put}
 use Rattle.zone_model.specs.declared.commits.Commit.{Commit}
 use Rattle.zone_model.specs.References.{references_in}
-use Rattle.zone_model.specs.Lawful.{are_lawful}
-use Rattle.zone_rows.proofs.RowWords.{draft, typed, op_of, act, made, told_ann, put, refused}
+use Rattle.zone_laws.specs.LawfulTests.{are_lawful}
+use Rattle.zone_rows.proofs.RowWords.{op_as, draft, typed, op_of, act, made, told_ann, put, refused}
 use Rattle.zone_rows.proofs.RowRecords.{a, k, m, row}
 
 -- a new record with one field, whose name has one byte: its size is 9 more than its value's
-abbrev create_with : Value → Op
+abbrev create_with : Value → NamedOp
 create_with v = op_of (record (typed a) { fields = (k, Some v) ∷ [] })
 
 pub a_record_has_at_most_this_size : (v : Value) → references_in v ≡ [] → size v ≡ 1048567 → told_ann made (create_with v ∷ []) ≡ put a 1 ∷ []
@@ -38,8 +38,8 @@ pub filled_is_lawful : (v : Value) → size v ≡ 1048000 → are_lawful [] (fil
 filled_is_lawful v sized = rw sized refl
 
 -- and gets another
-abbrev giving : OpKind → Value → List Op
-giving kind w = record { kind = kind; draft = record (draft a) { tag = Some (codes "1"); fields = (m, Some w) ∷ [] } } ∷ []
+abbrev giving : OpKind → Value → List NamedOp
+giving kind w = op_as kind (record (draft a) { tag = Some (codes "1"); fields = (m, Some w) ∷ [] }) ∷ []
 
 pub both_fields_fit : (v w : Value) → references_in w ≡ [] → size v ≡ 1048000 → size w ≡ 558 → told_ann (filled v) (giving Update w) ≡ put a 2 ∷ []
 unfolding digits

@@ -7,7 +7,7 @@ use Rattle.ck_base.specs.declared.scope.Scope.TheVariants.{Private, Shared}
 use Rattle.share_records.specs.declared.permission.Permission.TheVariants.{ReadWrite}
 use Rattle.record_model.specs.declared.records.Stamp.{Stamp}
 use Rattle.record_model.specs.declared.records.Record.{Record}
-use Rattle.zone_model.specs.declared.operations.Op.{Op}
+use Rattle.zone_model.specs.Requests.{NamedOp}
 use Rattle.zone_model.specs.declared.outcomes.Outcome.{Outcome}
 use Rattle.zone_model.specs.declared.outcomes.Outcome.TheVariants.{Put, Deleted, Refused}
 use Rattle.zone_model.specs.declared.outcomes.Modified.{Modified}
@@ -15,8 +15,8 @@ use Rattle.zone_model.specs.declared.commits.Commit.{Commit}
 use Rattle.zone_model.specs.Records.{record_at}
 use Rattle.zone_model.specs.Zones.{zone_at}
 use Rattle.zone_model.specs.Modifying.{modified}
-use Rattle.zone_model.specs.Lawful.{are_lawful}
-use Rattle.zone_rows.proofs.RowWords.{ann, bob, notes, create, create_under, update, delete, invited, create_share, made, link, asks, accepts}
+use Rattle.zone_laws.specs.LawfulTests.{are_lawful}
+use Rattle.zone_rows.proofs.RowWords.{ann, bob, notes, create, create_under, update, delete, invited, create_share, made, asks, accepts}
 use Rattle.zone_rows.proofs.RowRecords.{k, r, s}
 
 -- made and changed
@@ -31,14 +31,14 @@ abbrev stamps : ℕ → List ℕ → ℕ → List ℕ → Stamps
 stamps made_at maker changed_at changer = record { created = record { moment = made_at; user = maker }; modified = record { moment = changed_at; user = changer } }
 
 -- what a request of a user comes to at 2000, and the log with it
-abbrev later : List ℕ → Scope → List Commit → List Op → Modified
-later u scope log ops = modified (record { user = u; scope = scope; key = notes }) 2000 log true ops (link ∷ [])
+abbrev later : List ℕ → Scope → List Commit → List NamedOp → Modified
+later u scope log ops = modified (record { user = u; scope = scope; key = notes }) 2000 log true ops
 
-abbrev after : List ℕ → Scope → List Commit → List Op → List Commit
+abbrev after : List ℕ → Scope → List Commit → List NamedOp → List Commit
 after u scope log ops = log ++ (later u scope log ops).commits
 
 -- the stamps of a record then, and those that the replies to puts show
-abbrev stamps_after : List ℕ → Scope → List Commit → List Op → List ℕ → Option Stamps
+abbrev stamps_after : List ℕ → Scope → List Commit → List NamedOp → List ℕ → Option Stamps
 stamps_after u scope log ops name = option_map stamps_of (record_at (zone_at (after u scope log ops) notes).rows name)
 
 abbrev stamps_shown : List Outcome → List Stamps

@@ -8,7 +8,7 @@ use Rattle.record_model.specs.declared.subscription.Subscription.{Subscription}
 use Rattle.zone_model.specs.declared.commits.Act.TheVariants.{SetSubscription, DropSubscription}
 use Rattle.zone_model.specs.declared.commits.Commit.{Commit}
 use Rattle.zone_model.specs.Subscriptions.{subscriptions_of}
-use Rattle.zone_model.specs.Lawful.{are_lawful}
+use Rattle.zone_laws.specs.LawfulTests.{are_lawful}
 use Rattle.zone_rows.proofs.RowWords.{ann, bob, notes, act_at}
 use Rattle.zone_rows.proofs.RowRecords.{k, m}
 

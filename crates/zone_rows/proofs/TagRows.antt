@@ -3,16 +3,16 @@ use Rattle.std.proofs.Common.{◌≡◌, List, [], ◌∷◌, None, refl, true}
 use Rattle.std.specs.Fmt.{digits}
 use Rattle.zone_model.specs.declared.operations.OpKind.{OpKind}
 use Rattle.zone_model.specs.declared.operations.OpKind.TheVariants.{Update, ForceUpdate, Replace, ForceReplace, Delete, ForceDelete}
-use Rattle.zone_model.specs.declared.operations.Op.{Op}
+use Rattle.zone_model.specs.Requests.{NamedOp}
 use Rattle.zone_model.specs.declared.outcomes.OpFault.TheVariants.{Conflict}
 use Rattle.zone_model.specs.declared.commits.Commit.{Commit}
-use Rattle.zone_model.specs.Lawful.{are_lawful}
-use Rattle.zone_rows.proofs.RowWords.{draft, op_of, share_draft, create, made, asks, told_ann, put, gone, shown}
+use Rattle.zone_laws.specs.LawfulTests.{are_lawful}
+use Rattle.zone_rows.proofs.RowWords.{op_as, draft, op_of, share_draft, create, made, asks, told_ann, put, gone, shown}
 use Rattle.zone_rows.proofs.RowRecords.{a, r, s}
 
 -- an operation on a that gives no tag
-abbrev untagged : OpKind → List Op
-untagged kind = record { kind = kind; draft = draft a } ∷ []
+abbrev untagged : OpKind → List NamedOp
+untagged kind = op_as kind (draft a) ∷ []
 
 abbrev one : List Commit
 one = asks made (create a ∷ [])
@@ -56,7 +56,7 @@ forced_replaces_are_lawful = refl
 -- ---- the tag of a root
 
 -- a share of r that gives no tag of it
-abbrev untagged_share : Op
+abbrev untagged_share : NamedOp
 untagged_share = op_of (share_draft s r None [])
 
 abbrev root : List Commit

@@ -3,19 +3,19 @@ use Rattle.std.proofs.Common.{◌≡◌, List, [], ◌∷◌, refl, true, false}
 use Rattle.std.specs.Fmt.{digits}
 use Rattle.ck_base.specs.declared.scope.Scope.TheVariants.{Private}
 use Rattle.zone_model.specs.declared.operations.OpKind.TheVariants.{ForceUpdate}
-use Rattle.zone_model.specs.declared.operations.Op.{Op}
+use Rattle.zone_model.specs.Requests.{NamedOp}
 use Rattle.zone_model.specs.declared.outcomes.OpFault.TheVariants.{Exists, NotFound, Atomic}
 use Rattle.zone_model.specs.declared.commits.Commit.{Commit}
-use Rattle.zone_model.specs.Lawful.{are_lawful}
-use Rattle.zone_rows.proofs.RowWords.{ann, typed, create, update, delete, force_delete, made, asked_by, asks, told_ann, told, put, gone, refused}
+use Rattle.zone_laws.specs.LawfulTests.{are_lawful}
+use Rattle.zone_rows.proofs.RowWords.{op_as, ann, typed, create, update, delete, force_delete, made, asked_by, asks, told_ann, told, put, gone, refused}
 use Rattle.zone_rows.proofs.RowRecords.{a, b}
 
 pub a_name_is_put_once : told_ann made (create a ∷ create b ∷ create a ∷ []) ≡ refused Atomic ∷ refused Atomic ∷ refused Exists ∷ []
 unfolding digits
 a_name_is_put_once = refl
 
-abbrev force_update : Op
-force_update = record { kind = ForceUpdate; draft = typed a }
+abbrev force_update : NamedOp
+force_update = op_as ForceUpdate (typed a)
 
 pub a_forced_put_is_one_too : told_ann made (create a ∷ force_update ∷ []) ≡ refused Atomic ∷ refused Exists ∷ []
 unfolding digits

@@ -9,7 +9,7 @@ use Rattle.zone_model.specs.declared.commits.Act.TheVariants.{Writes}
 use Rattle.zone_model.specs.declared.commits.Write.TheVariants.{Put}
 use Rattle.zone_model.specs.declared.commits.Commit.{Commit}
 use Rattle.zone_model.specs.Views.{view_of, nowhere}
-use Rattle.zone_model.specs.Lawful.{are_lawful}
+use Rattle.zone_laws.specs.LawfulTests.{are_lawful}
 use Rattle.zone_rows.proofs.RowWords.{ann, bob, cat, notes, act, act_at, made, seen}
 use Rattle.zone_rows.proofs.RowRecords.{a, k, r, s, x, row, marked, member, stranger, share_row}
 

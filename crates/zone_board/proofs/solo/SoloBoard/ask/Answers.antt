@@ -1,4 +1,4 @@
-use Rattle.std.proofs.Common.{ℕ, ◌≡◌, ◌<◌, length, set, IfOk, IfErr, OnErr, subst, arith}
+use Rattle.std.proofs.Common.{◌≡◌, ◌<◌, length, set, IfOk, IfErr, OnErr, subst, arith}
 use Rattle.std.specs.List.{AllByRecursion}
 use Rattle.zone_model.specs.Events.{log_of}
 use Rattle.plain_creates.specs.OnePuts.{IsOnePut}
