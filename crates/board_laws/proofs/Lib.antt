@@ -8,6 +8,8 @@ pub mod SightLaws
 pub mod MadeLaws
 -- operations have names and GUIDs once these are drawn
 pub mod DrawnLaws
+-- of which words these are made
+pub mod NamedLaws
 -- a zone that somebody sees is there
 pub mod ThereLaws
 -- the sights of operations one after another, where the zone is the same

@@ -1,7 +1,14 @@
 // What holds of asks. The functions do nothing: their clauses are the laws.
+ghost use Rattle.board_laws.specs.Drawn.{NamesAreDrawn};
 ghost use Rattle.board_laws.specs.Answered.{AnswersAreTold, CommitsAreMade, FailuresAreTold, MadeWhereTold};
 ghost use Rattle.board_laws.specs.Sighted.{SightsAreTold, SightsDecide};
 ghost use Rattle.board_laws.specs.Lasting.{AsksStayLegal};
+
+/// Each operation of a part has the name that it gives, or else that of its own word, and the GUID of its
+/// own word; it keeps its kind and its draft.
+pub fn names_are_drawn()
+    ensures { NamesAreDrawn }
+{}
 
 /// A modify is answered with the outcomes of its operations, a lookup with records of the user's
 /// view, and just where the user sees no such zone it is told so.

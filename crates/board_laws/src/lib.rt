@@ -7,5 +7,5 @@ mod laws;
 
 pub use laws::{
     answers_are_told, asks_stay_legal, commits_are_made, failures_are_told, made_where_told,
-    sights_are_told, sights_decide,
+    names_are_drawn, sights_are_told, sights_decide,
 };

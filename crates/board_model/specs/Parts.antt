@@ -22,7 +22,7 @@ pub record IsOwnDefault (lock : ℕ) (user : List ℕ) (scope : Scope) (key : Zo
   pub in_default : is_default key ≡ true
   pub named : IsKey key
 
--- operations of a request, each a create of a record that stands alone, with a word for each that draws one
+-- operations of a request, each a create of a record that stands alone, with the words that they draw
 pub record AreBuilt (ops : List Op) (moment : ℕ) (words : List (List ℕ)) : Type 0 where
   pub meant : AreMeantOps ops
   pub plain : list_all is_plain_create ops ≡ true

@@ -17,7 +17,7 @@ pub enum Part {
         atomic: bool,
         ops: Ops,
         moment: u64,
-        /// A word for each operation that draws one, in order.
+        /// The words that the operations draw, in order: of one, first for its name, then for a GUID.
         words: Items<Word>,
     },
     /// The records of these names in a zone, for a user in a scope.

@@ -1,5 +1,6 @@
 -- How a run ends, and the status that tells it.
-use Rattle.std.specs.Prelude.{◌≡◌, ℕ, List, Option, Result, Ok, Err, ⊤}
+use Rattle.std.specs.Prelude.{◌≡◌, ℕ, List, Option, Result, Ok, Err}
+use Rattle.ck_devices.specs.Causes.{Rose}
 use Rattle.ck_devices.specs.Files.{Files}
 use Rattle.talk_model.specs.declared.ends.End.{End}
 use Rattle.talk_model.specs.declared.ends.End.TheVariants as end
@@ -35,11 +36,12 @@ ending_by (Err fault.ReadFault) = DeviceFault
 ending_by (Err fault.WriteFault) = DeviceFault
 ending_by (Err fault.NoMemory) = OutOfMemory
 
--- why no table of users was loaded from the file of that name: it holds none, the shelf failed, or memory ran out
-abbrev pub MayRefuse : Option Files → List ℕ → Type 0 → Ending → Type 0
-MayRefuse files name failed Done = ⊥
-MayRefuse files name failed DeviceFault = failed
-MayRefuse files name failed WrongWords = ⊥
-MayRefuse files name failed (BadFile bad) = (bad.now ≡ name) × LacksUsers files name
-MayRefuse files name failed (Early at) = ⊥
-MayRefuse files name failed OutOfMemory = ⊤
+-- why no table of users was loaded from the file of that name: it holds none, the shelf failed, or memory ran out; the shelf has
+-- failed once more just where that is why
+abbrev pub MayRefuse : Option Files → List ℕ → ℕ → ℕ → Ending → Type 0
+MayRefuse files name before now Done = ⊥
+MayRefuse files name before now DeviceFault = Rose before now
+MayRefuse files name before now WrongWords = ⊥
+MayRefuse files name before now (BadFile bad) = (bad.now ≡ name) × LacksUsers files name × (now ≡ before)
+MayRefuse files name before now (Early at) = ⊥
+MayRefuse files name before now OutOfMemory = now ≡ before

@@ -1,7 +1,7 @@
 -- The lines on standard error.
 use Rattle.std.specs.Prelude.{◌≡◌, ◌⊎◌, ℕ, List, [], ◌∷◌, ◌++◌, Option, codes}
 use Rattle.std.specs.Io.KnownBytes.{Appends}
-use Rattle.ck_devices.specs.Causes.{Rose}
+use Rattle.ck_devices.specs.Causes.{Failures, FailedLast}
 use Rattle.talk_model.specs.declared.ends.End.{End}
 use Rattle.talk_model.specs.declared.ends.End.TheVariants.{Closed, CloseAsked, Cut, BadHead, HeadTooLong, NoLength, BodyTooLong, Spent, NotBuilt}
 use Rattle.ck_command.specs.declared.endings.Ending.{Ending}
@@ -38,6 +38,6 @@ pub record AppendsFront (held now : Option (List ℕ)) (text : List ℕ) : Type 
   pub parts : text ≡ sent ++ unsent
   pub appended : Appends held now sent
 
--- the text stands behind what the sink held, or a front of it where the sink failed
-abbrev pub Tells : Option (List ℕ) → Option (List ℕ) → ℕ → ℕ → List ℕ → Type 0
-Tells held now faults later text = Appends held now text ⊎ (AppendsFront held now text × Rose faults later)
+-- the text stands behind what the sink held, which did not fail; or a front of it, where the last write failed and no other
+abbrev pub Tells : Option (List ℕ) → Option (List ℕ) → Failures → Failures → List ℕ → Type 0
+Tells held now before after text = (Appends held now text × (after.count ≡ before.count)) ⊎ (AppendsFront held now text × FailedLast before after)

@@ -1,5 +1,6 @@
 -- What a run answers, and what it says on standard error.
 use Rattle.std.specs.Prelude.{◌≡◌, ◌≢◌, ◌↔◌, ℕ, List, Option, None, Some, ⊤}
+use Rattle.ck_devices.specs.Causes.{Failures}
 use Rattle.ck_devices.specs.Files.{Files}
 use Rattle.ck_command.specs.declared.endings.Ending.{Ending}
 use Rattle.ck_command.specs.Arguments.{RunArguments}
@@ -14,14 +15,14 @@ IsThreeAtNoTable None asked status = ⊤
 IsThreeAtNoTable (Some files) asked status =
     status ≢ 1 → status ≢ 5 → (status ≡ 3) ↔ AsksForNoTable files asked
 
--- what standard error holds, where it tells it, and how often it has failed
+-- what standard error holds, where it tells it, and how it has failed
 pub record Errors : Type 0 where
   pub held : Option (List ℕ)
-  pub faults : ℕ
+  pub failures : Failures
 
 -- the run ended so, and its status and its line tell it
 pub record Ran (before after : Errors) (status : ℕ) (runs : Ending → Type 0) : Type 0 where
   pub ending : Ending
   pub does : runs ending
   pub status_is : status ≡ status_of ending
-  pub told : Tells before.held after.held before.faults after.faults (line_of ending)
+  pub told : Tells before.held after.held before.failures after.failures (line_of ending)

@@ -2,7 +2,7 @@
 use Rattle.std.specs.Prelude.{◌≡◌, ◌⊎◌, ℕ, true, List, [], Option, None, Some, Result, ⊤}
 use Rattle.std.specs.List.{AllByRecursion}
 use Rattle.ck_devices.specs.declared.faults.Failed.{Failed}
-use Rattle.ck_devices.specs.Causes.{Rose}
+use Rattle.ck_devices.specs.Causes.{Failures}
 use Rattle.ck_devices.specs.Files.{Files}
 use Rattle.ck_devices.specs.Runs.{GivesInTurn}
 use Rattle.zone_model.specs.declared.events.Event.{Event}
@@ -21,12 +21,12 @@ use Rattle.ck_command.specs.Arguments.{RunArguments}
 use Rattle.ck_command.specs.UsersFile.{table_in}
 use Rattle.ck_command.specs.Endings.{ending_by, MayRefuse}
 
--- What the source of a run has left and its sink holds, where they tell it, and how often each has failed.
+-- What the source of a run has left and its sink holds, where they tell it, and how each has failed.
 pub record Streams : Type 0 where
   pub left : Option (List ℕ)
-  pub source_faults : ℕ
+  pub source_failures : Failures
   pub held : Option (List ℕ)
-  pub sink_faults : ℕ
+  pub sink_failures : Failures
 
 -- its devices: the files of its shelf, where it tells them, how often that has failed, and its streams
 pub record Devices : Type 0 where
@@ -40,7 +40,7 @@ opened histories = record { histories = histories; seats = λ lock. Some 0; turn
 
 -- where its conversation stands
 abbrev pub standing : Streams → BoardState → Standing
-standing s board = record { left = s.left; source_faults = s.source_faults; held = s.held; sink_faults = s.sink_faults; board = board }
+standing s board = record { left = s.left; source_failures = s.source_failures; held = s.held; sink_failures = s.sink_failures; board = board }
 
 -- The moments are what the clock gave in turn or, where the words of the command say a moment, that one; and the random words
 -- are what their source gave in turn.
@@ -74,7 +74,7 @@ pub record ServesFile (opening : Histories Event) (gave : Option ℕ → List Gi
   pub table_is : IsTableIn before.files asked.users table
   pub serves : ServesFrom opening table (gave asked.moment) before.streams after.streams ending
 
--- nothing was taken and nothing written, neither source nor sink has failed, and no moment was read and no word drawn
+-- nothing was taken and nothing written, neither source nor sink was used, and no moment was read and no word drawn
 pub record IsUntouched (gave : Option ℕ → List Given → Type 0) (before after : Streams) : Type 0 where
   pub given : gave None []
   pub same : after ≡ before
@@ -83,9 +83,10 @@ pub record IsUntouched (gave : Option ℕ → List Given → Type 0) (before aft
 pub record RefusesFile (gave : Option ℕ → List Given → Type 0) (before after : Devices) (asked : RunArguments) (ending : Ending) : Type 0 where
   pub untouched : IsUntouched gave before.streams after.streams
   pub files : after.files ≡ before.files
-  pub may : MayRefuse before.files asked.users (Rose before.shelf_faults after.shelf_faults) ending
+  pub may : MayRefuse before.files asked.users before.shelf_faults after.shelf_faults ending
 
--- What a run does and how it ends: at wrong words nothing, of the shelf neither, and else it serves the requests once it has loaded the table of users.
+-- What a run does and how it ends: at wrong words it uses no stream, and the shelf has its files and has not failed; else it serves the requests
+-- once it has loaded the table of users.
 abbrev pub Runs : Histories Event → (Option ℕ → List Given → Type 0) → Devices → Devices → Option RunArguments → Ending → Type 0
 Runs opening gave before after None ending =
     (ending ≡ WrongWords) × IsUntouched gave before.streams after.streams × IsShelfKept before after

@@ -27,7 +27,7 @@ fn behind_run(words: &[Text]) -> Option<&[Text]>
 pub fn end_with<E: Sink>(errors: &mut E, ending: Ending<'_>) -> u8
     ensures status { result ≡ status_of ending.entry }
     ensures told { Tells (E.held errors.old) (E.held errors.new)
-        (E.fault_count errors.old) (E.fault_count errors.new) (line_of ending.entry) }
+        (E.failures errors.old) (E.failures errors.new) (line_of ending.entry) }
 {
     ending.report(errors);
     ending.status()
@@ -48,17 +48,17 @@ pub fn dispatch<F: Shelf, S: Source, W: Sink, E: Sink, C: Clock, R: Words>(
     ensures status { result ≤ 5 }
     ensures words { (result ≡ 2) ↔ (asked_by words.now ≡ None) }
     ensures table { IsThreeAtNoTable (F.files shelf.old) (asked_by words.now) result }
-    ensures ran { Ran (record { held = E.held errors.old; faults = E.fault_count errors.old }) (record { held = E.held errors.new; faults = E.fault_count errors.new }) result
+    ensures ran { Ran (record { held = E.held errors.old; failures = E.failures errors.old }) (record { held = E.held errors.new; failures = E.failures errors.new }) result
         (Runs (λ lock. []) (GivenAre C.gives (Draws R.gives R.fault_count) clock.old clock.new random.old random.new)
         (record {
           files = F.files shelf.old;
           shelf_faults = F.fault_count shelf.old;
-          streams = record { left = S.left source.old; source_faults = S.fault_count source.old; held = W.held sink.old; sink_faults = W.fault_count sink.old };
+          streams = record { left = S.left source.old; source_failures = S.failures source.old; held = W.held sink.old; sink_failures = W.failures sink.old };
         })
         (record {
           files = F.files shelf.new;
           shelf_faults = F.fault_count shelf.new;
-          streams = record { left = S.left source.new; source_faults = S.fault_count source.new; held = W.held sink.new; sink_faults = W.fault_count sink.new };
+          streams = record { left = S.left source.new; source_failures = S.failures source.new; held = W.held sink.new; sink_failures = W.failures sink.new };
         })
         (asked_by words.now)) }
 {

@@ -1,7 +1,7 @@
 //! How a run ends: the status of the program, and the line on standard error.
 ghost use Rattle.std.specs.Prelude.{◌≡◌, ◌≤◌, OnOk, OnErr};
 ghost use Rattle.std.specs.Io.KnownBytes.{Appends};
-ghost use Rattle.ck_devices.specs.Causes.{HasCause};
+ghost use Rattle.ck_devices.specs.Causes.{Stops};
 ghost use Rattle.ck_command.specs.Endings.{status_of};
 ghost use Rattle.ck_command.specs.Lines.{name_of, line, line_of, AppendsFront, Tells};
 
@@ -39,7 +39,7 @@ impl Ending<'_> {
     /// Says on standard error why the status is not 0, in a line of its own.
     pub fn report<E: Sink>(&self, errors: &mut E)
         ensures { Tells (E.held errors.old) (E.held errors.new)
-            (E.fault_count errors.old) (E.fault_count errors.new) (line_of self.now) }
+            (E.failures errors.old) (E.failures errors.new) (line_of self.now) }
     {
         match self {
             Ending::Done => {}
@@ -55,7 +55,7 @@ impl Ending<'_> {
 // Writes a line. Where that fails nothing else is done.
 fn tell<E: Sink>(errors: &mut E, text: &str, about: &str)
     ensures { Tells (E.held errors.old) (E.held errors.new)
-        (E.fault_count errors.old) (E.fault_count errors.new) (line text.now about.now) }
+        (E.failures errors.old) (E.failures errors.new) (line text.now about.now) }
 {
     let _ = write_line(errors, text, about);
 }
@@ -64,7 +64,7 @@ fn tell<E: Sink>(errors: &mut E, text: &str, about: &str)
 fn write_line<E: Sink>(errors: &mut E, text: &str, about: &str) -> Result<(), Failed>
     ensures ok { OnOk result (Appends (E.held errors.old) (E.held errors.new) (line text.now about.now)) }
     ensures err { OnErr result (AppendsFront (E.held errors.old) (E.held errors.new) (line text.now about.now)) }
-    ensures cause { HasCause (E.fault_count errors.old) (E.fault_count errors.new) result }
+    ensures cause { Stops (E.failures errors.old) (E.failures errors.new) result }
 {
     write_whole(errors, text.as_bytes())?;
     write_whole(errors, about.as_bytes())?;

@@ -1,6 +1,5 @@
 //! One run of the server over the devices that it is handed.
 ghost use Rattle.std.specs.Prelude.{◌≡◌, ◌≤◌, ◌↔◌, [], None, IfOk, OnOk, IfErr};
-ghost use Rattle.ck_devices.specs.Causes.{Rose};
 ghost use Rattle.talk_model.specs.Given.{Draws, GaveFor};
 ghost use Rattle.ck_command.specs.Arguments.{asked_of};
 ghost use Rattle.ck_command.specs.Endings.{ending_of, MayRefuse};
@@ -23,7 +22,7 @@ fn load_users<'a, F: Shelf>(
     name: &'a str,
 ) -> Result<Users, Ending<'a>>
     ensures table { IfOk result (λ users. IsTableIn (F.files shelf.old) name.now users) }
-    ensures refused { IfErr result (MayRefuse (F.files shelf.old) name.now (Rose (F.fault_count shelf.old) (F.fault_count shelf.new))) }
+    ensures refused { IfErr result (MayRefuse (F.files shelf.old) name.now (F.fault_count shelf.old) (F.fault_count shelf.new)) }
     ensures kept { F.files shelf.new ≡ F.files shelf.old }
     ensures counted { OnOk result (F.fault_count shelf.new ≡ F.fault_count shelf.old) }
 {
@@ -65,8 +64,8 @@ fn answer_all<'a, S: Source, W: Sink, C: Clock, R: Words>(
     words: &mut R,
 ) -> Ending<'a>
     ensures { ServesFrom (λ lock. []) users.now (GaveFor C.gives (Draws R.gives R.fault_count) clock.old clock.new words.old words.new)
-        (record { left = S.left source.old; source_faults = S.fault_count source.old; held = W.held sink.old; sink_faults = W.fault_count sink.old })
-        (record { left = S.left source.new; source_faults = S.fault_count source.new; held = W.held sink.new; sink_faults = W.fault_count sink.new }) result }
+        (record { left = S.left source.old; source_failures = S.failures source.old; held = W.held sink.old; sink_failures = W.failures sink.old })
+        (record { left = S.left source.new; source_failures = S.failures source.new; held = W.held sink.new; sink_failures = W.failures sink.new }) result }
 {
     let mut board = Solo::new(alloc);
     match converse(alloc, &mut board, users, source, sink, clock, words) {
@@ -93,12 +92,12 @@ fn run<'a, F: Shelf, S: Source, W: Sink, C: Clock, R: Words>(
         (record {
           files = F.files shelf.old;
           shelf_faults = F.fault_count shelf.old;
-          streams = record { left = S.left source.old; source_faults = S.fault_count source.old; held = W.held sink.old; sink_faults = W.fault_count sink.old };
+          streams = record { left = S.left source.old; source_failures = S.failures source.old; held = W.held sink.old; sink_failures = W.failures sink.old };
         })
         (record {
           files = F.files shelf.new;
           shelf_faults = F.fault_count shelf.new;
-          streams = record { left = S.left source.new; source_faults = S.fault_count source.new; held = W.held sink.new; sink_faults = W.fault_count sink.new };
+          streams = record { left = S.left source.new; source_failures = S.failures source.new; held = W.held sink.new; sink_failures = W.failures sink.new };
         })
         (asked_of args.now) result }
 {
@@ -135,17 +134,17 @@ pub fn run_command<F: Shelf, S: Source, W: Sink, E: Sink, C: Clock, R: Words>(
     ensures status { result ≤ 5 }
     ensures words { (result ≡ 2) ↔ (asked_of args.now ≡ None) }
     ensures table { IsThreeAtNoTable (F.files shelf.old) (asked_of args.now) result }
-    ensures ran { Ran (record { held = E.held errors.old; faults = E.fault_count errors.old }) (record { held = E.held errors.new; faults = E.fault_count errors.new }) result
+    ensures ran { Ran (record { held = E.held errors.old; failures = E.failures errors.old }) (record { held = E.held errors.new; failures = E.failures errors.new }) result
         (Runs (λ lock. []) (GivenAre C.gives (Draws R.gives R.fault_count) clock.old clock.new words.old words.new)
         (record {
           files = F.files shelf.old;
           shelf_faults = F.fault_count shelf.old;
-          streams = record { left = S.left source.old; source_faults = S.fault_count source.old; held = W.held sink.old; sink_faults = W.fault_count sink.old };
+          streams = record { left = S.left source.old; source_failures = S.failures source.old; held = W.held sink.old; sink_failures = W.failures sink.old };
         })
         (record {
           files = F.files shelf.new;
           shelf_faults = F.fault_count shelf.new;
-          streams = record { left = S.left source.new; source_faults = S.fault_count source.new; held = W.held sink.new; sink_faults = W.fault_count sink.new };
+          streams = record { left = S.left source.new; source_failures = S.failures source.new; held = W.held sink.new; sink_failures = W.failures sink.new };
         })
         (asked_of args.now)) }
 {

@@ -1,5 +1,5 @@
--- What a clause reads of an adapter: the reader or the writer in it, and its faults.
-use Rattle.std.specs.Prelude.{ℕ}
+-- What a clause reads of an adapter: the reader or the writer in it, and its failures.
+use Rattle.ck_devices.specs.Causes.{Failures}
 use Rattle.ck_devices.specs.declared.standard.ReaderSource.{ReaderSource}
 use Rattle.ck_devices.specs.declared.standard.WriterSink.{WriterSink}
 
@@ -7,14 +7,14 @@ use Rattle.ck_devices.specs.declared.standard.WriterSink.{WriterSink}
 abbrev pub reader_of : {R : Type 0} → ReaderSource R → R
 reader_of source = source.inner
 
--- how often a read failed
-abbrev pub read_faults : {R : Type 0} → ReaderSource R → ℕ
-read_faults source = source.faults
+-- its failures so far
+abbrev pub read_failures : {R : Type 0} → ReaderSource R → Failures
+read_failures source = source.uses
 
 -- the writer that a sink writes to
 abbrev pub writer_of : {W : Type 0} → WriterSink W → W
 writer_of sink = sink.inner
 
--- how often a write failed
-abbrev pub write_faults : {W : Type 0} → WriterSink W → ℕ
-write_faults sink = sink.faults
+-- its failures so far
+abbrev pub write_failures : {W : Type 0} → WriterSink W → Failures
+write_failures sink = sink.uses

@@ -1,6 +1,6 @@
-// Counts of faults, and which calls of a device in memory fail.
-ghost use Rattle.std.specs.Prelude.{◌≡◌, ◌≤◌, is_err};
-ghost use Rattle.ck_devices.specs.Causes.{one_more, HasCause};
+// Counts of faults and of uses, and which calls of a device in memory fail.
+ghost use Rattle.std.specs.Prelude.{◌≡◌, ◌≤◌, is_err, true};
+ghost use Rattle.ck_devices.specs.Causes.{one_more, unused, used, HasCause};
 ghost use Rattle.ck_devices.specs.Plans.{fresh, fails_next, counted};
 
 use std::marker::Model;
@@ -48,12 +48,58 @@ impl FaultCount {
     }
 }
 
-/// Which calls of a device in memory fail, with counts of its calls and faults.
+/// Counts the uses of a device that failed, and those since the last of them, each at most 2^64 - 1.
+#[derive(Drop)]
+pub struct UseCount {
+    failures: u64,
+    since: u64,
+}
+
+impl Model for UseCount {
+    ghost use Rattle.ck_devices.specs.Causes.{Failures};
+
+    ghost Value = { Failures };
+
+    ghost view = { λ u. record { count = u.failures; since = u.since } };
+}
+
+impl UseCount {
+    /// No use was made yet.
+    pub fn new() -> Self
+        ensures { result ≡ unused }
+    {
+        UseCount {
+            failures: 0,
+            since: 0,
+        }
+    }
+
+    /// Counts one use, which failed or did not.
+    pub fn count(&mut self, failed: bool)
+        ensures { self.new ≡ used self.old failed }
+    {
+        if failed {
+            self.failures = self.failures.saturating_add(1);
+            self.since = 0;
+        } else {
+            self.since = self.since.saturating_add(1);
+        }
+    }
+
+    /// The uses that failed so far.
+    pub fn failures(&self) -> u64
+        ensures { result ≡ self.now.count }
+    {
+        self.failures
+    }
+}
+
+/// Which calls of a device in memory fail, with counts of its calls and of their failures.
 #[derive(Drop)]
 pub struct FaultPlan {
     fails: Vec<u64>,
     calls: u64,
-    faults: FaultCount,
+    uses: UseCount,
 }
 
 impl Model for FaultPlan {
@@ -61,7 +107,7 @@ impl Model for FaultPlan {
 
     ghost Value = { Plan };
 
-    ghost view = { λ p. record { fails = p.fails.items; calls = p.calls; faults = p.faults } };
+    ghost view = { λ p. record { fails = p.fails.items; calls = p.calls; failures = p.uses } };
 }
 
 impl FaultPlan {
@@ -72,7 +118,7 @@ impl FaultPlan {
         FaultPlan {
             fails,
             calls: 0,
-            faults: FaultCount::new(),
+            uses: UseCount::new(),
         }
     }
 
@@ -81,27 +127,29 @@ impl FaultPlan {
     pub fn start_call(&mut self) -> Result<(), Failed>
         ensures listed { is_err result ≡ fails_next self.old }
         ensures after { self.new ≡ counted self.old (is_err result) }
-        ensures cause { HasCause self.old.faults self.new.faults result }
+        ensures cause { HasCause self.old.failures.count self.new.failures.count result }
     {
         self.calls = self.calls.saturating_add(1);
-        if self.fails.contains(&self.calls) {
-            return Err(self.faults.raise());
+        let failed = self.fails.contains(&self.calls);
+        self.uses.count(failed);
+        if failed {
+            return Err(Failed);
         }
         Ok(())
     }
 
-    /// Counts a fault that no list names, as want of room.
+    /// Says of the call at hand, which no list names, that it failed all the same, as for want of room.
     pub fn raise(&mut self) -> Failed
-        ensures after { self.new ≡ record self.old { faults = one_more self.old.faults } }
-        ensures later { self.old.faults ≤ self.new.faults }
+        ensures { self.new ≡ record self.old { failures = used self.old.failures true } }
     {
-        self.faults.raise()
+        self.uses.count(true);
+        Failed
     }
 
     /// The faults so far.
     pub fn faults(&self) -> u64
-        ensures { result ≡ self.now.faults }
+        ensures { result ≡ self.now.failures.count }
     {
-        self.faults.count()
+        self.uses.failures()
     }
 }

@@ -15,7 +15,7 @@ mod words;
 mod writing;
 
 pub use clock::{Clock, FixedClock};
-pub use faults::{Failed, FaultCount, FaultPlan};
+pub use faults::{Failed, FaultCount, FaultPlan, UseCount};
 pub use folder::FolderShelf;
 pub use shelf::{MemShelf, Shelf, ShelfFault};
 pub use sink::{MemSink, Sink};

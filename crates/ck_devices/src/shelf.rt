@@ -92,7 +92,7 @@ impl MemShelf {
 impl Shelf for MemShelf {
     ghost files = { λ s. Some s.files };
 
-    ghost fault_count = { λ s. s.plan.faults };
+    ghost fault_count = { λ s. s.plan.failures.count };
 
     fn faults(&self) -> u64 {
         self.plan.faults()
@@ -102,7 +102,7 @@ impl Shelf for MemShelf {
         ensures bytes { IfOk result (λ found. ReadsFile (Some self.old.files) name.now found into.new.items) }
         ensures refused { OnErr result (into.new.items ≡ []) }
         ensures kept { Some self.new.files ≡ Some self.old.files }
-        ensures cause { HasCauseAt ShelfFault.Failed self.old.plan.faults self.new.plan.faults result }
+        ensures cause { HasCauseAt ShelfFault.Failed self.old.plan.failures.count self.new.plan.failures.count result }
 
         // What the trait leaves open.
         ensures listed { IsErrOf result ShelfFault.Failed ↔ IsTrue (fails_next self.old.plan) }

@@ -1,7 +1,7 @@
 // Where bytes go.
 ghost use Rattle.std.specs.Prelude.{◌≡◌, ◌<◌, ◌≤◌, ℕ, List, [], length, min, Option, Some, IfOk, IsErr, is_err, IsTrue};
 ghost use Rattle.std.specs.Io.KnownBytes.{WriteAppends};
-ghost use Rattle.ck_devices.specs.Causes.{HasCause};
+ghost use Rattle.ck_devices.specs.Causes.{Failures, used};
 ghost use Rattle.ck_devices.specs.Plans.{fresh, fails_next, counted};
 
 use crate::{Failed, FaultPlan};
@@ -13,12 +13,12 @@ pub trait Sink {
     /// The bytes that it took, where the sink tells.
     ghost held: { Self → Option (List ℕ) };
 
-    /// How often it failed.
-    ghost fault_count: { Self → ℕ };
+    /// How often it failed, and how many writes came since.
+    ghost failures: { Self → Failures };
 
     /// How often it failed, at most 2^64 - 1.
     fn faults(&self) -> u64
-        ensures { result ≡ fault_count self.now };
+        ensures { result ≡ (failures self.now).count };
 
     /// Takes the front of the piece, at least one byte of it, and answers how many bytes it took. A
     /// write that fails takes none.
@@ -27,7 +27,7 @@ pub trait Sink {
         ensures some { IfOk result (λ n. 0 < n) }
         ensures bound { IfOk result (λ n. n ≤ length piece.now) }
         ensures bytes { WriteAppends (held self.old) (held self.new) result piece.now }
-        ensures cause { HasCause (fault_count self.old) (fault_count self.new) result };
+        ensures counted { failures self.new ≡ used (failures self.old) (is_err result) };
 }
 
 /// A sink in memory, which keeps what is written to it. A write for which it finds no room fails.
@@ -74,7 +74,7 @@ impl MemSink {
 impl Sink for MemSink {
     ghost held = { λ s. Some s.held };
 
-    ghost fault_count = { λ s. s.plan.faults };
+    ghost failures = { λ s. s.plan.failures };
 
     fn faults(&self) -> u64 {
         self.plan.faults()
@@ -85,12 +85,12 @@ impl Sink for MemSink {
         ensures some { IfOk result (λ n. 0 < n) }
         ensures bound { IfOk result (λ n. n ≤ length piece.now) }
         ensures bytes { WriteAppends (Some self.old.held) (Some self.new.held) result piece.now }
-        ensures cause { HasCause self.old.plan.faults self.new.plan.faults result }
+        ensures counted { self.new.plan.failures ≡ used self.old.plan.failures (is_err result) }
 
         // What the trait leaves open. A write that is not listed can still find no room.
         ensures count { IfOk result (λ n. n ≡ min self.old.piece (length piece.now)) }
         ensures listed { IsTrue (fails_next self.old.plan) → IsErr result }
-        ensures counted { self.new.plan ≡ counted self.old.plan (is_err result) }
+        ensures plan { self.new.plan ≡ counted self.old.plan (is_err result) }
         ensures piece { self.new.piece ≡ self.old.piece }
     {
         self.plan.start_call()?;

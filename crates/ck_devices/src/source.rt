@@ -2,7 +2,7 @@
 ghost use Rattle.std.specs.Prelude.{◌≡◌, ◌<◌, ◌≤◌, ℕ, List, [], length, take, min, Option, Some, IfOk, is_err};
 ghost use Rattle.std.specs.Io.{ReadsAtMost};
 ghost use Rattle.std.specs.Io.KnownBytes.{ReadConsumes};
-ghost use Rattle.ck_devices.specs.Causes.{HasCause};
+ghost use Rattle.ck_devices.specs.Causes.{Failures, used};
 ghost use Rattle.ck_devices.specs.Plans.{fresh, fails_next, counted};
 
 use crate::{Failed, FaultPlan};
@@ -13,12 +13,12 @@ pub trait Source {
     /// The bytes that are left, where the source tells.
     ghost left: { Self → Option (List ℕ) };
 
-    /// How often it failed.
-    ghost fault_count: { Self → ℕ };
+    /// How often it failed, and how many reads came since.
+    ghost failures: { Self → Failures };
 
     /// How often it failed, at most 2^64 - 1.
     fn faults(&self) -> u64
-        ensures { result ≡ fault_count self.now };
+        ensures { result ≡ (failures self.now).count };
 
     /// Takes the next bytes, and answers how many stand at the front of `into`. 0 is the end of
     /// input. A read that fails takes none.
@@ -26,7 +26,7 @@ pub trait Source {
         requires { 0 < length into.old }
         ensures bound { ReadsAtMost result into.new }
         ensures bytes { ReadConsumes (left self.old) (left self.new) result into.new }
-        ensures cause { HasCause (fault_count self.old) (fault_count self.new) result };
+        ensures counted { failures self.new ≡ used (failures self.old) (is_err result) };
 }
 
 /// A source in memory, which gives its bytes in pieces.
@@ -68,7 +68,7 @@ impl MemSource {
 impl Source for MemSource {
     ghost left = { λ s. Some s.left };
 
-    ghost fault_count = { λ s. s.plan.faults };
+    ghost failures = { λ s. s.plan.failures };
 
     fn faults(&self) -> u64 {
         self.plan.faults()
@@ -79,12 +79,12 @@ impl Source for MemSource {
         requires { 0 < length into.old }
         ensures bound { ReadsAtMost result into.new }
         ensures bytes { ReadConsumes (Some self.old.left) (Some self.new.left) result into.new }
-        ensures cause { HasCause self.old.plan.faults self.new.plan.faults result }
+        ensures counted { self.new.plan.failures ≡ used self.old.plan.failures (is_err result) }
 
         // What the trait leaves open.
         ensures count { IfOk result (λ n. n ≡ min self.old.piece (min (length self.old.left) (length into.old))) }
         ensures listed { is_err result ≡ fails_next self.old.plan }
-        ensures counted { self.new.plan ≡ counted self.old.plan (is_err result) }
+        ensures plan { self.new.plan ≡ counted self.old.plan (is_err result) }
         ensures piece { self.new.piece ≡ self.old.piece }
     {
         self.plan.start_call()?;

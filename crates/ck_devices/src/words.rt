@@ -57,7 +57,7 @@ impl CountWords {
 impl Words for CountWords {
     ghost gives = { Draws };
 
-    ghost fault_count = { λ w. w.plan.faults };
+    ghost fault_count = { λ w. w.plan.failures.count };
 
     fn faults(&self) -> u64 {
         self.plan.faults()

@@ -2,7 +2,7 @@
 use Rattle.std.proofs.Common.{◌≡◌, ℕ, List, [], ◌++◌, refl, sym, ap, subst, ◌∙◌, append-nil, None, Some, Option, Result, Ok, Err}
 use Rattle.std.specs.List.{concat}
 use Rattle.std.specs.Io.KnownBytes.{Consumes}
-use Rattle.ck_devices.specs.Causes.{HasCauseAt}
+use Rattle.ck_devices.specs.Causes.{StopsAt}
 use Rattle.http_front.specs.declared.request.Request.{Request}
 use Rattle.http_front.specs.Users.{Table}
 use Rattle.talk_model.specs.declared.ends.End.{End}
@@ -63,17 +63,17 @@ answers_all t gave entry now marks end k bytes rs left whole =
 
 module _ (t : Table) (gave : List Given → Type 0) (entry now : Standing) (marks : List Mark) where
   complete : (outcome : Result End TalkFaultKind) → (k : Comes t gave entry now marks outcome) → IsComplete t entry (k.course).wanted outcome
-      → HasCauseAt ReadFault entry.source_faults now.source_faults outcome → HasCauseAt WriteFault entry.sink_faults now.sink_faults outcome → Converses t gave entry now marks outcome
+      → StopsAt ReadFault entry.source_failures now.source_failures outcome → StopsAt WriteFault entry.sink_failures now.sink_failures outcome → Converses t gave entry now marks outcome
   complete outcome k all reads writes =
       record { course = k.course; marks_are = k.marks_are; given = k.given; conversed = k.conversed; fits = k.fits; complete = all; reads = reads; writes = writes }
 
   -- a conversation that ended well comes to that, and is complete
-  pub ended_well : (end : End) → EndsWell t gave entry now marks end → now.source_faults ≡ entry.source_faults → now.sink_faults ≡ entry.sink_faults → Converses t gave entry now marks (Ok end)
+  pub ended_well : (end : End) → EndsWell t gave entry now marks end → now.source_failures.count ≡ entry.source_failures.count → now.sink_failures.count ≡ entry.sink_failures.count → Converses t gave entry now marks (Ok end)
   ended_well end k read written =
       complete (Ok end) k (λ bytes requests left whole. answers_all t gave entry now marks end k bytes requests left whole)
-      (cause_ok ReadFault entry.source_faults now.source_faults end read) (cause_ok WriteFault entry.sink_faults now.sink_faults end written)
+      (cause_ok ReadFault entry.source_failures now.source_failures end read) (cause_ok WriteFault entry.sink_failures now.sink_failures end written)
 
   -- one that broke off comes to that
-  pub broke_off : (at : TalkFaultKind) → BreaksOff t gave entry now marks at → HasCauseAt {T = End} ReadFault entry.source_faults now.source_faults (Err at)
-      → HasCauseAt {T = End} WriteFault entry.sink_faults now.sink_faults (Err at) → Converses t gave entry now marks (Err at)
+  pub broke_off : (at : TalkFaultKind) → BreaksOff t gave entry now marks at → StopsAt {T = End} ReadFault entry.source_failures now.source_failures (Err at)
+      → StopsAt {T = End} WriteFault entry.sink_failures now.sink_failures (Err at) → Converses t gave entry now marks (Err at)
   broke_off at k reads writes = complete (Err at) k (λ bytes requests left whole. tt) reads writes

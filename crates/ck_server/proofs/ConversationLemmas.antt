@@ -4,6 +4,7 @@ use Rattle.std.proofs.lemmas.List.{length-drop, drop-append-le}
 use Rattle.std.proofs.lemmas.List.Folds.{concat-append}
 use Rattle.std.specs.List.{concat}
 use Rattle.std.specs.Io.KnownBytes.{Consumes, Appends}
+use Rattle.ck_devices.specs.Causes.{Failures}
 use Rattle.zone_model.specs.declared.events.Event.{Event}
 use Rattle.zone_model.specs.declared.events.Event.TheVariants.{Made, StoreFailed}
 use Rattle.board_model.specs.Asks.{append_in}
@@ -46,13 +47,13 @@ conversed-start t entry legal = record {
 }
 
 -- the same with other bytes left
-abbrev pub with_source : Standing → Option (List ℕ) → ℕ → Standing
-with_source s left faults = record { left = left; source_faults = faults; held = s.held; sink_faults = s.sink_faults; board = s.board }
+abbrev pub with_source : Standing → Option (List ℕ) → Failures → Standing
+with_source s left failures = record { left = left; source_failures = failures; held = s.held; sink_failures = s.sink_failures; board = s.board }
 
 -- what was read stands behind the requests
-abbrev pub conversed_took : (t : Table) (entry now : Standing) (left : Option (List ℕ)) (faults : ℕ) (wanted : List Meaning) (marks : List Mark) (old new : List ℕ) → (c : Conversed t entry now wanted marks old [] []) → length old < most_piece → ReadsOn now.left left old new
-    → Conversed t entry (with_source now left faults) wanted marks new [] []
-conversed_took t entry now left faults wanted marks old new c little read = record {
+abbrev pub conversed_took : (t : Table) (entry now : Standing) (left : Option (List ℕ)) (failures : Failures) (wanted : List Meaning) (marks : List Mark) (old new : List ℕ) → (c : Conversed t entry now wanted marks old [] []) → length old < most_piece → ReadsOn now.left left old new
+    → Conversed t entry (with_source now left failures) wanted marks new [] []
+conversed_took t entry now left failures wanted marks old new c little read = record {
   requests = c.requests;
   sent = c.sent;
   each = c.each;
@@ -69,17 +70,17 @@ conversed_took t entry now left faults wanted marks old new c little read = reco
 }
 
 -- what is written last was written, or a part of it
-abbrev pub with_sink : Standing → Option (List ℕ) → ℕ → Standing
-with_sink s held faults = record { left = s.left; source_faults = s.source_faults; held = held; sink_faults = faults; board = s.board }
+abbrev pub with_sink : Standing → Option (List ℕ) → Failures → Standing
+with_sink s held failures = record { left = s.left; source_failures = s.source_failures; held = held; sink_failures = failures; board = s.board }
 
 -- all replies were written
 pub all_sent : (t : Table) (entry now : Standing) (wanted : List Meaning) (marks : List Mark) (rest : List ℕ) (c : Conversed t entry now wanted marks rest [] []) → concat (talk wanted marks now.board.histories) ≡ c.sent
 all_sent t entry now wanted marks rest c = ap concat (sym (append-nil (talk wanted marks now.board.histories))) ∙ (c.text ∙ append-nil c.sent)
 
 -- texts were written last, but for unsent
-abbrev pub conversed_sent : (t : Table) (entry now : Standing) (held : Option (List ℕ)) (faults : ℕ) (wanted : List Meaning) (marks : List Mark) (rest : List ℕ) (last : List (List ℕ)) (sent unsent : List ℕ) → (c : Conversed t entry now wanted marks rest [] []) → concat last ≡ sent ++ unsent → Appends now.held held sent
-    → Conversed t entry (with_sink now held faults) wanted marks rest last unsent
-conversed_sent t entry now held faults wanted marks rest last sent unsent c parts appended = record {
+abbrev pub conversed_sent : (t : Table) (entry now : Standing) (held : Option (List ℕ)) (failures : Failures) (wanted : List Meaning) (marks : List Mark) (rest : List ℕ) (last : List (List ℕ)) (sent unsent : List ℕ) → (c : Conversed t entry now wanted marks rest [] []) → concat last ≡ sent ++ unsent → Appends now.held held sent
+    → Conversed t entry (with_sink now held failures) wanted marks rest last unsent
+conversed_sent t entry now held failures wanted marks rest last sent unsent c parts appended = record {
   requests = c.requests;
   sent = c.sent ++ sent;
   each = c.each;

@@ -4,7 +4,7 @@ pub mod DrawingLemmas
 pub mod ReplyLemmas
 -- how far a conversation reads ahead
 pub mod AheadLemmas
--- counts of faults
+-- where a device failed last
 pub mod CauseLemmas
 -- what asks change
 pub mod AskingLemmas

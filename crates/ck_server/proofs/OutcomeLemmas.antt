@@ -4,6 +4,7 @@ use Rattle.std.proofs.lemmas.List.{drop_all, take-append-drop, length-drop}
 use Rattle.std.specs.Prelude.{⊤, ◌⊎◌, option_map}
 use Rattle.std.specs.List.{AllByRecursion, concat}
 use Rattle.std.specs.Io.KnownBytes.{Appends}
+use Rattle.ck_devices.specs.Causes.{Failures}
 use Rattle.zone_model.specs.Events.{own_of}
 use Rattle.board_model.specs.Turns.{BoardState, AreLegal}
 use Rattle.http_front.specs.declared.faults.FrontFault.{FrontFault}
@@ -88,8 +89,8 @@ the_end : (a b : End) → Some a ≡ Some b → a ≡ b
 the_end a b e = cc
 
 -- the same with other bytes left and held
-abbrev pub with_both : Standing → Option (List ℕ) → ℕ → Option (List ℕ) → ℕ → Standing
-with_both s left reads held writes = record { left = left; source_faults = reads; held = held; sink_faults = writes; board = s.board }
+abbrev pub with_both : Standing → Option (List ℕ) → Failures → Option (List ℕ) → Failures → Standing
+with_both s left reads held writes = record { left = left; source_failures = reads; held = held; sink_failures = writes; board = s.board }
 
 module _ (t : Table) (gave : List Given → Type 0) (entry now : Standing) (marks : List Mark) (buffer : List ℕ) (goes : Goes t entry now marks buffer) (given : gave (map given_of marks)) where
   as_many : length marks ≡ length goes.wanted
@@ -101,11 +102,11 @@ module _ (t : Table) (gave : List Given → Type 0) (entry now : Standing) (mark
   -- where as many requests were answered as a connection may have
   pub spent_well : length marks ≡ most_requests → EndsWell t gave entry now marks Spent
   spent_well all = comes_done t gave entry now goes.wanted marks buffer ([] ∷ []) [] (Ok Spent) given
-      (conversed_sent t entry now now.held now.sink_faults goes.wanted marks buffer ([] ∷ []) [] [] goes.conversed refl (appends-nil now.held))
+      (conversed_sent t entry now now.held now.sink_failures goes.wanted marks buffer ([] ∷ []) [] [] goes.conversed refl (appends-nil now.held))
       ((refl, refl, goes.settled), refl, refl, (sym as_many ∙ all, goes.go_on), goes.little)
 
   -- where no further request was read
-  module _ (few : length marks < most_requests) (left : Option (List ℕ)) (reads : ℕ) (held : Option (List ℕ)) (writes : ℕ) (new : List ℕ) (read : ReadsOn now.left left buffer new) where
+  module _ (few : length marks < most_requests) (left : Option (List ℕ)) (reads : Failures) (held : Option (List ℕ)) (writes : Failures) (new : List ℕ) (read : ReadsOn now.left left buffer new) where
     abbrev took : Conversed t entry (with_source now left reads) goes.wanted marks new [] []
     took = conversed_took t entry now left reads goes.wanted marks buffer new goes.conversed goes.little read
 
@@ -217,17 +218,17 @@ module _ (t : Table) (entry now later : Standing) (old : List Mark) (buffer : Li
   closes closing s =
       let m = one_more [] s in
       comes_done t gave entry later (goes.wanted ++ s.0 ∷ []) new buffer2 ([] ∷ []) [] (Ok CloseAsked) (given_now [] s)
-      (conversed_sent t entry later later.held later.sink_faults (goes.wanted ++ s.0 ∷ []) new buffer2 ([] ∷ []) [] [] m.conversed refl (appends-nil later.held))
+      (conversed_sent t entry later later.held later.sink_failures (goes.wanted ++ s.0 ∷ []) new buffer2 ([] ∷ []) [] [] m.conversed refl (appends-nil later.held))
       ((refl, refl, m.settled), refl, refl, (s.0, last_of s.0, (s.1).close ∙ closing), little_now)
 
   abbrev rest : List ℕ
   rest = takes.bytes ++ buffer2
 
-  abbrev took_it : Conversed t entry (with_source now later.left later.source_faults) goes.wanted old rest [] []
-  took_it = conversed_took t entry now later.left later.source_faults goes.wanted old buffer rest goes.conversed goes.little (record { taken = takes.taken; consumed = takes.consumed; grown = sym takes.parts; ahead = takes.ahead })
+  abbrev took_it : Conversed t entry (with_source now later.left later.source_failures) goes.wanted old rest [] []
+  took_it = conversed_took t entry now later.left later.source_failures goes.wanted old buffer rest goes.conversed goes.little (record { taken = takes.taken; consumed = takes.consumed; grown = sym takes.parts; ahead = takes.ahead })
 
   abbrev kept_it : MayGrow now.board later.board → Appends now.held later.held [] → Conversed t entry later goes.wanted old rest [] []
-  kept_it grows appended = conversed_grown t entry (with_source now later.left later.source_faults) later goes.wanted old rest took_it grows refl appended
+  kept_it grows appended = conversed_grown t entry (with_source now later.left later.source_failures) later goes.wanted old rest took_it grows refl appended
 
   settled_same : now.board ≡ later.board → AreSettled entry.board later.board goes.wanted old
   settled_same same = subst (λ (b : BoardState). AreSettled entry.board b goes.wanted old) same goes.settled
@@ -245,7 +246,7 @@ module _ (t : Table) (entry now later : Standing) (old : List Mark) (buffer : Li
       let kept = kept_it (same_grows now.board later.board l.same) l.appended in
       subst (λ (marks : List Mark). EndsWell t gave entry later marks NotBuilt) (sym l.marks)
       (comes_done t gave entry later goes.wanted old rest ([] ∷ []) [] (Ok NotBuilt) (subst gave (append-nil (map given_of old)) (join [] l.given))
-      (conversed_sent t entry later later.held later.sink_faults goes.wanted old rest ([] ∷ []) [] [] kept refl (appends-nil later.held))
+      (conversed_sent t entry later later.held later.sink_failures goes.wanted old rest ([] ∷ []) [] [] kept refl (appends-nil later.held))
       ((refl, refl, settled_same l.same), refl, refl, (open_now, unbuilt_in_front l.want), tt))
 
   -- what was given for it, without a mark

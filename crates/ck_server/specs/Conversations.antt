@@ -2,6 +2,7 @@
 use Rattle.std.specs.Prelude.{◌≡◌, ℕ, true, List, [], ◌++◌, length, drop, map, zip, Option, Some}
 use Rattle.std.specs.List.{AllZip, concat, flat_map}
 use Rattle.std.specs.Io.KnownBytes.{Consumes, Appends}
+use Rattle.ck_devices.specs.Causes.{Failures}
 use Rattle.zone_model.specs.declared.events.Event.{Event}
 use Rattle.zone_model.specs.Histories.{Histories}
 use Rattle.zone_model.specs.Events.{own_of}
@@ -16,12 +17,12 @@ use Rattle.talk_model.specs.Marks.{IsLater, event_at, AreMarksOf, asks_in, asks_
 use Rattle.talk_model.specs.Talk.{talk}
 use Rattle.talk_model.specs.Alone.{Storing, WentSo, after_all, replies_alone}
 
--- where a conversation stands: what its source has left and its sink holds, where they tell it, how often they have failed, and what its board tells
+-- where a conversation stands: what its source has left and its sink holds, where they tell it, how they have failed, and what its board tells
 pub record Standing : Type 0 where
   pub left : Option (List ℕ)
-  pub source_faults : ℕ
+  pub source_failures : Failures
   pub held : Option (List ℕ)
-  pub sink_faults : ℕ
+  pub sink_failures : Failures
   pub board : BoardState
 
 -- the board is alone, and writes as seat 0

@@ -2,7 +2,7 @@
 use Rattle.std.specs.Prelude.{◌≡◌, ◌⊎◌, ℕ, true, ◌<◌, List, [], ◌∷◌, ◌++◌, length, map, Option, Some, Result, Ok, Err, ⊤}
 use Rattle.std.specs.Result.{result_map_both}
 use Rattle.std.specs.Io.KnownBytes.{IsAtEnd}
-use Rattle.ck_devices.specs.Causes.{HasCauseAt}
+use Rattle.ck_devices.specs.Causes.{StopsAt}
 use Rattle.board_model.specs.Turns.{BoardState, MayHaveAsked}
 use Rattle.http_front.specs.Users.{Table}
 use Rattle.http_front.specs.Requests.{IsUnfinished}
@@ -112,7 +112,7 @@ Fits t entry now c (Err NoMemory) =
     HasInHand t entry.board now.board c × (c.unsent ≡ []) × (c.last ≡ []) × AreOpen c.wanted
 
 -- What a conversation comes to. The clock and the words gave what the marks tell, and what they gave for a request that has none. No read
--- and no write failed but the one that broke it off.
+-- and no write failed but the one that broke it off, behind which its device was not used.
 pub record Converses (t : Table) (gave : List Given → Type 0) (entry now : Standing) (marks : List Mark) (outcome : Result End TalkFaultKind) : Type 0 where
   pub course : Course
   pub marks_are : marks ≡ course.done ++ course.begun
@@ -120,8 +120,8 @@ pub record Converses (t : Table) (gave : List Given → Type 0) (entry now : Sta
   pub conversed : Conversed t entry now course.wanted course.done course.rest course.last course.unsent
   pub fits : Fits t entry now course outcome
   pub complete : IsComplete t entry course.wanted outcome
-  pub reads : HasCauseAt ReadFault entry.source_faults now.source_faults outcome
-  pub writes : HasCauseAt WriteFault entry.sink_faults now.sink_faults outcome
+  pub reads : StopsAt ReadFault entry.source_failures now.source_failures outcome
+  pub writes : StopsAt WriteFault entry.sink_failures now.sink_failures outcome
 
 -- the marks of a conversation, and its end or what broke it off
 abbrev pub marks_of : Result Talk TalkFault → List Mark

@@ -14,8 +14,8 @@ use zone_board::Board;
 /// Answers the requests of a source to a sink, one after another, until the source ends, a request
 /// asks to close, the bytes are none of a request, a request has a form that is not built, or as
 /// many were answered as a connection may have. Where the bytes can be no request, the last reply
-/// says so. A fault of the source or the sink, and want of memory, break the conversation off: no use
-/// that failed is tried again.
+/// says so. A fault of the source or the sink, and want of memory, break the conversation off: a use
+/// that failed is the last use of that device, and the fault tells it.
 ///
 /// Where the source has whole requests to its end and neither device fails, they are answered, up to
 /// one that asks to close or whose form is not built and as many as a connection may have, unless
@@ -33,8 +33,8 @@ pub fn converse<B: Board, S: Source, W: Sink, C: Clock, R: Words>(
     words: &mut R,
 ) -> Result<Talk, TalkFault>
     ensures converses { Converses users.now (GaveFor C.gives (Draws R.gives R.fault_count) clock.old clock.new words.old words.new)
-        (record { left = S.left source.old; source_faults = S.fault_count source.old; held = W.held sink.old; sink_faults = W.fault_count sink.old; board = B.state board.old })
-        (record { left = S.left source.new; source_faults = S.fault_count source.new; held = W.held sink.new; sink_faults = W.fault_count sink.new; board = B.state board.new })
+        (record { left = S.left source.old; source_failures = S.failures source.old; held = W.held sink.old; sink_failures = W.failures sink.old; board = B.state board.old })
+        (record { left = S.left source.new; source_failures = S.failures source.new; held = W.held sink.new; sink_failures = W.failures sink.new; board = B.state board.new })
         (marks_of result) (outcome_of result) }
 {
     board.hold_legal();

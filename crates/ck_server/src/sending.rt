@@ -1,6 +1,6 @@
 // What is written to a sink.
 ghost use Rattle.std.specs.Prelude.{◌≡◌, Ok, OnOk};
-ghost use Rattle.ck_devices.specs.Causes.{HasCauseAt};
+ghost use Rattle.ck_devices.specs.Causes.{StopsAt};
 ghost use Rattle.talk_model.specs.Calls.{text_of};
 ghost use Rattle.talk_model.specs.Connections.{farewell, last_text};
 ghost use Rattle.ck_server.specs.Answering.{Sends};
@@ -22,7 +22,7 @@ pub(crate) fn send_reply<W: Sink>(
     reply: &Reply,
 ) -> Result<(), TalkFaultKind>
     ensures sends { Sends (W.held sink.old) (W.held sink.new) (text_of close reply.now) result }
-    ensures cause { HasCauseAt TalkFaultKind.WriteFault (W.fault_count sink.old) (W.fault_count sink.new) result }
+    ensures cause { StopsAt TalkFaultKind.WriteFault (W.failures sink.old) (W.failures sink.new) result }
 {
     let body = reply_text(alloc, reply)?;
     match write_reply(alloc, sink, reply_status(reply), body.as_bytes(), close) {
@@ -37,7 +37,7 @@ fn refuse<W: Sink>(alloc: Global, sink: &mut W, end: End) -> Result<End, TalkFau
     requires { last_text end ≡ farewell }
     ensures sends { Sends (W.held sink.old) (W.held sink.new) (last_text end) result }
     ensures end { OnOk result (result ≡ Ok end) }
-    ensures cause { HasCauseAt TalkFaultKind.WriteFault (W.fault_count sink.old) (W.fault_count sink.new) result }
+    ensures cause { StopsAt TalkFaultKind.WriteFault (W.failures sink.old) (W.failures sink.new) result }
 {
     send_reply(alloc, sink, true, &Reply::Refused(ServerError::BadRequest))?;
     Ok(end)
@@ -50,7 +50,7 @@ pub(crate) fn finish<W: Sink>(
     fault: FrontFault,
 ) -> Result<End, TalkFaultKind>
     ensures finishes { Finishes (W.held sink.old) (W.held sink.new) fault result }
-    ensures cause { HasCauseAt TalkFaultKind.WriteFault (W.fault_count sink.old) (W.fault_count sink.new) result }
+    ensures cause { StopsAt TalkFaultKind.WriteFault (W.failures sink.old) (W.failures sink.new) result }
 {
     match fault {
         FrontFault::Ended => Ok(End::Closed),

@@ -1,6 +1,6 @@
 // Serving one request.
 ghost use Rattle.std.specs.Prelude.{◌≡◌, [], IfOk, OnErr};
-ghost use Rattle.ck_devices.specs.Causes.{HasCauseAt};
+ghost use Rattle.ck_devices.specs.Causes.{StopsAt};
 ghost use Rattle.wire_calls.specs.declared.reply.Reply.TheVariants.{Refused};
 ghost use Rattle.talk_model.specs.Given.{Draws, GaveFor};
 ghost use Rattle.talk_model.specs.Calls.{text_of};
@@ -69,7 +69,7 @@ fn refuse_request<W: Sink>(
 ) -> Result<Served, TalkFaultKind>
     ensures refuses { Refuses arrival.number (given_with arrival.moment drawn.words.items drawn.drawn) (W.held sink.old) (W.held sink.new)
         marks.old.items marks.new.items (text_of close (Refused error)) result }
-    ensures cause { HasCauseAt TalkFaultKind.WriteFault (W.fault_count sink.old) (W.fault_count sink.new) result }
+    ensures cause { StopsAt TalkFaultKind.WriteFault (W.failures sink.old) (W.failures sink.new) result }
 {
     mark_refusal(alloc, arrival, drawn, marks)?;
     send_reply(alloc, sink, close, &Reply::Refused(error))?;
@@ -91,7 +91,7 @@ fn serve_call<B: Board, W: Sink, R: Words>(
     ensures serves { ServesWant (GaveOne arrival.moment (Draws R.gives R.fault_count) words.old words.new) arrival.number
         (record { held = W.held sink.old; board = B.state board.old }) (record { held = W.held sink.new; board = B.state board.new })
         marks.old.items marks.new.items close (Want.Called call) result }
-    ensures cause { HasCauseAt TalkFaultKind.WriteFault (W.fault_count sink.old) (W.fault_count sink.new) result }
+    ensures cause { StopsAt TalkFaultKind.WriteFault (W.failures sink.old) (W.failures sink.new) result }
 {
     let drawn = draw_words(alloc, words, words_of(&call))?;
     if drawn.drawn {
@@ -129,7 +129,7 @@ pub(crate) fn serve_request<B: Board, W: Sink, C: Clock, R: Words>(
     ensures serves { Serves (GaveFor C.gives (Draws R.gives R.fault_count) clock.old clock.new words.old words.new) number
         (record { held = W.held sink.old; board = B.state board.old }) (record { held = W.held sink.new; board = B.state board.new })
         marks.old.items marks.new.items users.now request.now result }
-    ensures cause { HasCauseAt TalkFaultKind.WriteFault (W.fault_count sink.old) (W.fault_count sink.new) result }
+    ensures cause { StopsAt TalkFaultKind.WriteFault (W.failures sink.old) (W.failures sink.new) result }
 {
     let Some(want) = read_want(alloc, users, request)? else {
         return Ok(Served::NotBuilt);

@@ -1,7 +1,7 @@
 // Devices that count their uses.
 ghost use Rattle.std.specs.Prelude.{⊤, None};
 
-use ck_devices::{Clock, Failed, MemSink, MemSource, Sink, Source, Words};
+use ck_devices::{Clock, Failed, MemSink, MemSource, Sink, Source, UseCount, Words};
 use std::cell::Cell;
 
 // Counts one use more, and says which it is.
@@ -53,19 +53,21 @@ pub(crate) struct PatientSource<'a> {
     pub written: &'a Cell<u64>,
     pub wanted: u64,
     pub reads: &'a Cell<u64>,
+    pub counted: UseCount,
 }
 
 impl Source for PatientSource<'_> {
     ghost left = { λ _. None };
 
-    ghost fault_count = { λ _. 0 };
+    ghost failures = { λ s. s.counted };
 
     fn faults(&self) -> u64 {
-        0
+        self.counted.failures()
     }
 
     fn read(&mut self, into: &mut [u8]) -> Result<usize, Failed> {
         next_use(self.reads);
+        self.counted.count(false);
         match self.first.read(into) {
             Ok(count) if count > 0 => Ok(count),
             _ if self.written.get() >= self.wanted => Ok(self.second.read(into).unwrap_or(0)),
@@ -79,19 +81,21 @@ impl Source for PatientSource<'_> {
 pub(crate) struct CountingSink<'a> {
     pub bytes: MemSink,
     pub written: &'a Cell<u64>,
+    pub counted: UseCount,
 }
 
 impl Sink for CountingSink<'_> {
     ghost held = { λ _. None };
 
-    ghost fault_count = { λ _. 0 };
+    ghost failures = { λ s. s.counted };
 
     fn faults(&self) -> u64 {
-        0
+        self.counted.failures()
     }
 
     fn write(&mut self, piece: &[u8]) -> Result<usize, Failed> {
         let _ = self.bytes.write(piece);
+        self.counted.count(false);
         let count = u64::try_from(piece.len()).unwrap_or(u64::MAX);
         self.written.set(self.written.get().saturating_add(count));
         Ok(piece.len())

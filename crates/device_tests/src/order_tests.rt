@@ -1,6 +1,6 @@
 // In which order a conversation uses its devices. They are several, so no contract tells it.
 use crate::order_devices::{CountedClock, CountedWords, CountingSink, PatientSource};
-use ck_devices::{MemSink, MemSource};
+use ck_devices::{MemSink, MemSource, UseCount};
 use ck_server::{End, converse};
 use http_front::read_users;
 use std::alloc::{AllocError, Global};
@@ -41,10 +41,12 @@ fn devices_are_used_in_order(rt: HostRuntime) -> Result<(), Fail> {
         written: &written,
         wanted: FIRST_AND_SECOND.len() as u64,
         reads: &reads,
+        counted: UseCount::new(),
     };
     let mut sink = CountingSink {
         bytes: MemSink::new(alloc, 65_536, Vec::new(alloc)),
         written: &written,
+        counted: UseCount::new(),
     };
     let talk = converse(
         alloc,

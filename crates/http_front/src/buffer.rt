@@ -1,6 +1,6 @@
 // What was read from a source and not yet taken.
 ghost use Rattle.std.specs.Prelude.{◌≡◌, ◌≤◌, ◌<◌, [], length, drop, vec_len, IfErr};
-ghost use Rattle.ck_devices.specs.Causes.{HasCauseAt};
+ghost use Rattle.ck_devices.specs.Causes.{StopsAt};
 ghost use Rattle.http_front.specs.Reading.{Fills, IsReadError};
 
 use crate::FrontFault;
@@ -58,7 +58,7 @@ impl Buffer {
     /// Reads the next piece behind the bytes, and says how long it is. 0 is the end of the source.
     pub(crate) fn fill<S: Source>(&mut self, source: &mut S) -> Result<usize, FrontFault>
         ensures more { Fills (S.left source.old) (S.left source.new) self.old self.new result }
-        ensures cause { HasCauseAt FrontFault.ReadFault (S.fault_count source.old) (S.fault_count source.new) result }
+        ensures cause { StopsAt FrontFault.ReadFault (S.failures source.old) (S.failures source.new) result }
         ensures read { IfErr result IsReadError }
     {
         remove_front(&mut self.bytes, self.taken);
@@ -82,7 +82,7 @@ fn remove_front(bytes: &mut Vec<u8>, count: usize)
 // Reads the next piece behind the bytes. Its room is made before, so nothing that was read is lost.
 fn read_more<S: Source>(source: &mut S, bytes: &mut Vec<u8>) -> Result<usize, FrontFault>
     ensures more { Fills (S.left source.old) (S.left source.new) bytes.old.items bytes.new.items result }
-    ensures cause { HasCauseAt FrontFault.ReadFault (S.fault_count source.old) (S.fault_count source.new) result }
+    ensures cause { StopsAt FrontFault.ReadFault (S.failures source.old) (S.failures source.new) result }
     ensures read { IfErr result IsReadError }
 {
     let mut piece = [0u8; PIECE];

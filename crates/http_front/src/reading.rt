@@ -1,6 +1,6 @@
 // Whole requests from a source.
 ghost use Rattle.std.specs.Prelude.{◌≡◌, ◌≤◌, ◌+◌, ◌<◌, length, Ok, IfOk, OnOk, IfErr, OnErr};
-ghost use Rattle.ck_devices.specs.Causes.{HasCauseAt};
+ghost use Rattle.ck_devices.specs.Causes.{StopsAt};
 ghost use Rattle.http_front.specs.Reading.{most_piece, Extends, ReadsOn, TakesRequest, IsFault};
 ghost use Rattle.http_front.specs.Scans.{IsFound};
 ghost use Rattle.http_front.specs.Taking.{StopsHead, TakesBehind};
@@ -20,7 +20,7 @@ fn fill_head<S: Source>(source: &mut S, buffer: &mut Buffer) -> Result<(), Front
     ensures piece { OnOk result (length buffer.new ≤ length buffer.old + most_piece) }
     ensures same { OnErr result (buffer.new ≡ buffer.old) }
     ensures stops { IfErr result (λ fault. StopsHead fault (S.left source.new) buffer.new) }
-    ensures cause { HasCauseAt FrontFault.ReadFault (S.fault_count source.old) (S.fault_count source.new) result }
+    ensures cause { StopsAt FrontFault.ReadFault (S.failures source.old) (S.failures source.new) result }
 {
     if buffer.fill(source)? > 0 {
         Ok(())
@@ -37,7 +37,7 @@ fn read_head<S: Source>(source: &mut S, buffer: &mut Buffer) -> Result<HeadRead,
     ensures reads { ReadsOn (S.left source.old) (S.left source.new) buffer.old buffer.new }
     ensures head { IfOk result (λ head. IsFound buffer.new head) }
     ensures fault { IfErr result (λ fault. IsFault fault (S.left source.new) buffer.new) }
-    ensures cause { HasCauseAt FrontFault.ReadFault (S.fault_count source.old) (S.fault_count source.new) result }
+    ensures cause { StopsAt FrontFault.ReadFault (S.failures source.old) (S.failures source.new) result }
 {
     let mut scan = UNSEEN;
     loop {
@@ -87,7 +87,7 @@ fn read_body<S: Source>(
     ensures found { IsFound buffer.new head }
     ensures whole { OnOk result (head.len + size ≤ length buffer.new) }
     ensures fault { IfErr result (λ fault. IsFault fault (S.left source.new) buffer.new) }
-    ensures cause { HasCauseAt FrontFault.ReadFault (S.fault_count source.old) (S.fault_count source.new) result }
+    ensures cause { StopsAt FrontFault.ReadFault (S.failures source.old) (S.failures source.new) result }
 {
     while buffer.as_slice().len() < head.len + size {
         if buffer.fill(source)? == 0 {
@@ -106,7 +106,7 @@ fn read_whole<S: Source>(
     ensures reads { ReadsOn (S.left source.old) (S.left source.new) buffer.old buffer.new }
     ensures whole { IfOk result (λ whole. IsFound buffer.new whole.0 × (whole.0.length ≡ Ok whole.1) × (whole.0.len + whole.1 ≤ length buffer.new)) }
     ensures fault { IfErr result (λ fault. IsFault fault (S.left source.new) buffer.new) }
-    ensures cause { HasCauseAt FrontFault.ReadFault (S.fault_count source.old) (S.fault_count source.new) result }
+    ensures cause { StopsAt FrontFault.ReadFault (S.failures source.old) (S.failures source.new) result }
 {
     let head = read_head(source, buffer)?;
     let size = head.length?;
@@ -127,7 +127,7 @@ pub fn read_request<S: Source>(
     ensures request { IfOk result (λ r. TakesRequest (S.left source.old) (S.left source.new) buffer.old buffer.new r) }
     ensures kept { OnErr result (ReadsOn (S.left source.old) (S.left source.new) buffer.old buffer.new) }
     ensures fault { IfErr result (λ fault. IsFault fault (S.left source.new) buffer.new) }
-    ensures cause { HasCauseAt FrontFault.ReadFault (S.fault_count source.old) (S.fault_count source.new) result }
+    ensures cause { StopsAt FrontFault.ReadFault (S.failures source.old) (S.failures source.new) result }
 {
     let (head, size) = read_whole(source, buffer)?;
     take_request(alloc, buffer, head, size)

@@ -1,7 +1,7 @@
 // Replies to a sink.
 ghost use Rattle.std.specs.Prelude.{◌≡◌, ◌++◌, string_bytes, length, IfOk, OnOk, IsErrOf};
 ghost use Rattle.std.specs.Io.KnownBytes.{Appends};
-ghost use Rattle.ck_devices.specs.Causes.{HasCauseAt};
+ghost use Rattle.ck_devices.specs.Causes.{StopsAt};
 ghost use Rattle.ck_devices.specs.Fronts.{WritesFront};
 ghost use Rattle.http_front.specs.Replies.{IsStatus, phrase_of, status_line, last_lines, reply_head, reply_text};
 
@@ -105,7 +105,7 @@ pub fn write_reply<W: Sink>(
     ensures ok { OnOk result (Appends (W.held sink.old) (W.held sink.new) (reply_text status body.now close)) }
     ensures front { IsErrOf result WriteFault.Failed → WritesFront (W.held sink.old) (W.held sink.new) (reply_text status body.now close) }
     ensures spared { IsErrOf result WriteFault.NoMemory → sink.new ≡ sink.old }
-    ensures cause { HasCauseAt WriteFault.Failed (W.fault_count sink.old) (W.fault_count sink.new) result }
+    ensures cause { StopsAt WriteFault.Failed (W.failures sink.old) (W.failures sink.new) result }
 {
     let head = reply_head(alloc, status, body.len(), close)?;
     write_whole(sink, head.as_bytes())?;

@@ -2,7 +2,7 @@
 use Rattle.std.proofs.Common.{◌≡◌, ◌≤◌, ℕ, suc, ◌+◌, List, [], ◌∷◌, ◌++◌, Bool, true, false, refl, sym, ap, ◌∙◌, subst, arith, Some, None, Option, map, length, length-append, ⊎_elim}
 use Rattle.std.specs.Prelude.{zip, is_some, unwrap_or, if◌then◌else◌}
 use Rattle.std.specs.Option.{option_map_or}
-use Rattle.std.specs.List.{list_any, list_all}
+use Rattle.std.specs.List.{list_any, list_all, AllZip}
 use Rattle.std.proofs.lemmas.Bool.{both_ways, and_parts, and_from, or_left, or_right, or_cases}
 use Rattle.std.proofs.lemmas.List.{length-map}
 use Rattle.record_model.specs.declared.records.Record.{Record}
@@ -20,8 +20,9 @@ use Rattle.zone_model.specs.Grounds.{grounds_of}
 use Rattle.zone_model.specs.Judging.{faults_of, has_fault, together}
 use Rattle.zone_model.specs.Effect.{Request, working, stamped, removed, writes, commits_with, effect}
 use Rattle.zone_model.specs.Modifying.{outcome_of, is_judged_as_one, request_at, judgement_at, effect_at, modified_as_one, modified_apart}
-use Rattle.zone_laws.specs.Answering.{is_refusal, EachIsAnswered}
+use Rattle.zone_laws.specs.Answering.{is_refusal, IsAnswerTo, EachIsAnswered}
 use Rattle.zone_laws.proofs.ConflictLaws.{all_judged}
+use Rattle.zone_laws.proofs.OwnLaws.{told_together, one_told}
 
 length_zip : {X Y : Type 0} (xs : List X) (ys : List Y) → length ys ≡ length xs → length (zip xs ys) ≡ length xs
 length_zip [] ys e = refl
@@ -119,9 +120,30 @@ module _ (caller : Caller) (moment : ℕ) (log : List Commit) (ops : List NamedO
   each_by true = answers_as_one caller moment log ops
   each_by false = answers_apart caller moment ops log
 
+-- ---- each tells of its own operation
+
+module _ (caller : Caller) (moment : ℕ) where
+  own_as_one : (log : List Commit) (ops : List NamedOp) → AllZip IsAnswerTo ops (modified_as_one caller moment log ops).outcomes
+  own_as_one log ops =
+      let v = view_of log caller.user caller.scope caller.key in
+      let pasts = name_history log caller.key ops in
+      told_together (has_fault (judgement_at caller moment log ops)) (request_at caller moment log ops) pasts refl (all_judged v pasts ops caller)
+      (all-refused (faults_of (grounds_of caller pasts v.rows ops) ops))
+
+  own_apart : (ops : List NamedOp) (log : List Commit) → AllZip IsAnswerTo ops (modified_apart caller moment log ops).outcomes
+  own_apart [] log = tt
+  own_apart (op ∷ ops) log =
+      let made = effect_at caller moment log (op ∷ []) in
+      one_told op ops (modified_as_one caller moment log (op ∷ [])).outcomes (modified_apart caller moment (log ++ made) ops).outcomes (own_as_one log (op ∷ [])) (own_apart ops (log ++ made))
+
+  own_by : (b : Bool) (log : List Commit) (ops : List NamedOp) → AllZip IsAnswerTo ops (if b then modified_as_one caller moment log ops else modified_apart caller moment log ops).outcomes
+  own_by true log ops = own_as_one log ops
+  own_by false log ops = own_apart ops log
+
 pub each_answered : EachIsAnswered
 each_answered = record {
   each = λ caller moment log atomic ops. each_by caller moment log ops (is_judged_as_one caller.key atomic);
+  own = λ caller moment log atomic. own_by caller moment (is_judged_as_one caller.key atomic) log;
   few = λ caller moment log atomic ops apart.
       subst (λ b. length (if b then modified_as_one caller moment log ops else modified_apart caller moment log ops).commits ≤ length ops) (sym apart) (few_apart caller moment ops log);
   one = λ caller moment log atomic ops as_one.

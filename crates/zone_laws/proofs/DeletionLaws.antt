@@ -37,11 +37,11 @@ use Rattle.zone_laws.proofs.AfterLaws.{write_named, found-after-puts, left_same}
 use Rattle.zone_laws.proofs.PeopleLaws.{gone}
 use Rattle.zone_laws.proofs.CoreLaws.{share-core}
 use Rattle.zone_laws.proofs.JudgeLaws.{there-found}
-use Rattle.zone_laws.proofs.KeptLaws.{IsFine, old-after}
+use Rattle.zone_laws.proofs.KeptLaws.{IsFine, found_put, old-after}
 use Rattle.zone_laws.proofs.ParentLaws.{after_in_order, taken-gone}
 use Rattle.zone_laws.proofs.AnswerLaws.{all-refused}
 use Rattle.zone_laws.proofs.LawfulLaws.{is_fine}
-use Rattle.zone_laws.proofs.WrittenLaws.{found_write, found_put, made_writes}
+use Rattle.zone_laws.proofs.WrittenLaws.{found_write, made_writes}
 use Rattle.zone_laws.proofs.MadeLaws.{seen_there, private_by, put_stays}
 use Rattle.zone_laws.proofs.TestLaws.{in_turn_back}
 

@@ -10,7 +10,7 @@ use Rattle.zone_model.specs.declared.commits.Write.TheVariants.{Put, Remove, Put
 use Rattle.zone_model.specs.Names.{is_in}
 use Rattle.zone_model.specs.Records.{names_in, IsAscending, with_record}
 use Rattle.zone_model.specs.Zones.{written_name}
-use Rattle.zone_model.specs.Effect.{writes, Request, working, is_put, is_left, after_leaving, body_without, after_puts, removed, is_written, final, write_as, write_of}
+use Rattle.zone_model.specs.Effect.{writes, Request, working, is_put, is_left, after_leaving, body_without, after_puts, is_written, final, write_as, write_of}
 use Rattle.zone_model.specs.Form.{are_in_order}
 use Rattle.zone_model.specs.Modifying.{request_at}
 use Rattle.zone_laws.specs.LawfulTests.{has_next_tag}

@@ -41,14 +41,28 @@ pub record IsFine (q : Request) (pasts : List Past) : Type 0 where
   pub history : (x : List ℕ) (p : NamedOp) → put_at (puts_in q.ops) x ≡ Some p → is_taken pasts x ≡ is_there q.rows x
   pub roots : has_twice (roots_in q.ops) ≡ false
 
-any_put_step : (s : Bool) (q p : NamedOp) (ps : List NamedOp) (x : List ℕ) → same x q.name ≡ s → (put_at ps x ≡ Some p → list_any (λ (t : NamedOp). same x t.name) ps ≡ true)
-    → cond s (Some q) (put_at ps x) ≡ Some p → (same x q.name || list_any (λ (t : NamedOp). same x t.name) ps) ≡ true
-any_put_step true q p ps x is ih e = or_left (same x q.name) _ is
-any_put_step false q p ps x is ih e = or_right (same x q.name) _ (ih e)
+any_step : (s : Bool) (test : NamedOp → Bool) (q p : NamedOp) (ps : List NamedOp) (x : List ℕ) → test p ≡ true → (put_at ps x ≡ Some p → list_any test ps ≡ true)
+    → cond s (Some q) (put_at ps x) ≡ Some p → (test q || list_any test ps) ≡ true
+any_step true test q p ps x passes ih e = or_left (test q) _ (subst (λ t. test t ≡ true) (sym (same_Some q p e)) passes)
+any_step false test q p ps x passes ih e = or_right (test q) _ (ih e)
+
+-- a test that the put of a name passes is passed by some put
+pub any-found : (test : NamedOp → Bool) (ps : List NamedOp) (x : List ℕ) (p : NamedOp) → put_at ps x ≡ Some p → test p ≡ true → list_any test ps ≡ true
+any-found test [] x p e passes = absurd (both_ways false refl (ap (λ (o : Option NamedOp). option_map_or (λ _. true) o false) e))
+any-found test (q ∷ ps) x p e passes = any_step (same x q.name) test q p ps x passes (λ f. any-found test ps x p f passes) e
 
 pub any_put : (ps : List NamedOp) (x : List ℕ) (p : NamedOp) → put_at ps x ≡ Some p → list_any (λ (t : NamedOp). same x t.name) ps ≡ true
-any_put [] x p e = absurd (both_ways false refl (ap (λ (o : Option NamedOp). option_map_or (λ _. true) o false) e))
-any_put (q ∷ ps) x p e = any_put_step (same x q.name) q p ps x refl (any_put ps x p) e
+any_put ps x p e = any-found (λ (t : NamedOp). same x t.name) ps x p e (put-name ps x p e)
+
+found_put_step : (s : Bool) (p : NamedOp) (ps : List NamedOp) (x : List ℕ) → (list_any (λ (t : NamedOp). same x t.name) ps ≡ true → (q : NamedOp) × (put_at ps x ≡ Some q))
+    → (s || list_any (λ (t : NamedOp). same x t.name) ps) ≡ true → (q : NamedOp) × (cond s (Some p) (put_at ps x) ≡ Some q)
+found_put_step true p ps x rest e = (p, refl)
+found_put_step false p ps x rest e = rest e
+
+-- a name that some put has
+pub found_put : (ps : List NamedOp) (x : List ℕ) → list_any (λ (t : NamedOp). same x t.name) ps ≡ true → (p : NamedOp) × (put_at ps x ≡ Some p)
+found_put [] x e = absurd (both_ways false refl e)
+found_put (p ∷ ps) x e = found_put_step (same x p.name) p ps x (found_put ps x) e
 
 module _ (q : Request) (pasts : List Past) (fine : IsFine q pasts) where
   -- the checks that a put has passed

@@ -72,12 +72,16 @@ pub mod StoredLaws
 pub mod ConflictLaws
 -- what the shared scope permits
 pub mod SharedLaws
+-- a zone that is not there holds nothing, and a default zone is always there
+pub mod ThereLaws
 -- tags count puts, and parents are kept
 pub mod LifeLaws
 -- nobody is let in by a rewritten list
 pub mod PeopleLaws
 -- pages, feeds and what was seen, as histories grow
 pub mod FollowLaws
+-- each outcome tells of its own operation
+pub mod OwnLaws
 -- one outcome for each operation
 pub mod AnswerLaws
 -- what a request writes

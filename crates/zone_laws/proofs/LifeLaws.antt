@@ -1,5 +1,5 @@
 -- Tags count puts, and parents are kept, in lawful logs.
-use Rattle.std.proofs.Common.{◌≡◌, ℕ, suc, ◌+◌, List, [], ◌∷◌, ◌++◌, Bool, true, false, cond, ◌&&◌, ◌||◌, refl, sym, ap, ◌∙◌, subst, arith, Some, None, Option, inl, inr, ⊎_elim, append_assoc, append-nil, map}
+use Rattle.std.proofs.Common.{◌≡◌, ℕ, suc, ◌+◌, List, [], ◌∷◌, ◌++◌, Bool, true, false, cond, ◌&&◌, ◌||◌, refl, sym, ap, ◌∙◌, subst, arith, Some, None, Option, inl, inr, ⊎_elim, append_assoc, append-nil}
 use Rattle.std.specs.Prelude.{◌⊎◌, fold, count_by, is_some, if◌then◌else◌}
 use Rattle.std.specs.List.{list_any, list_all}
 use Rattle.std.proofs.lemmas.Bool.{both_ways, and_parts, or_left, or_right, eqb-true}
@@ -17,13 +17,13 @@ use Rattle.zone_model.specs.Names.{same, same_option, same_key}
 use Rattle.zone_model.specs.Records.{record_at, is_there}
 use Rattle.zone_model.specs.Zones.{Zone, zone_at, after_write, after_act, puts_name, act_puts, puts_at, written_name}
 use Rattle.zone_model.specs.Subscriptions.{subscriptions_at}
-use Rattle.zone_model.specs.Views.{fronts}
 use Rattle.zone_laws.specs.LawfulTests.{is_lawful_write, has_next_tag, is_lawful_act, is_lawful, are_lawful}
-use Rattle.zone_laws.specs.Lives.{lives_through, LivesAreKept}
+use Rattle.zone_laws.specs.Lives.{LivesThrough, LivesAreKept}
 use Rattle.zone_laws.proofs.LogLaws.{zone-snoc, puts-append}
 use Rattle.zone_laws.proofs.EntryLaws.{Grown, empty, one_more, grown}
 use Rattle.zone_laws.proofs.RecordLaws.{none-some, found-after, left_by}
 use Rattle.zone_laws.proofs.FormedLaws.{lawful-parts, key-true, well-formed}
+use Rattle.zone_laws.proofs.ThereLaws.{bare-zone, home-there}
 use Rattle.zone_laws.proofs.JudgeLaws.{there-found}
 use Rattle.zone_laws.proofs.SameLaws.{option-true}
 use Rattle.zone_laws.proofs.TestLaws.{together_so, in_turn_back}
@@ -150,30 +150,18 @@ lawful_front before (c ∷ log) more e =
     let parts = and_parts (is_lawful before c) _ e in
     ap (λ b. b && are_lawful (before ++ c ∷ []) log) parts.0 ∙ lawful_front (before ++ c ∷ []) log more parts.1
 
-all_moved : {X Y : Type 0} (f : X → Y) (p : Y → Bool) (xs : List X) → list_all p (map f xs) ≡ list_all (λ x. p (f x)) xs
-all_moved f p [] = refl
-all_moved f p (x ∷ xs) = ap (λ b. p (f x) && b) (all_moved f p xs)
+first_lives : (log : List Commit) (key : ZoneKey) (x : List ℕ) (more : List Commit) → LivesThrough log key x more → is_there (zone_at log key).rows x ≡ true
+first_lives log key x more lives = subst (λ l. is_there (zone_at l key).rows x ≡ true) (append-nil log) (lives [] more refl)
 
-first_lives : (log : List Commit) (key : ZoneKey) (x : List ℕ) (more : List Commit) → lives_through log key x more → is_there (zone_at log key).rows x ≡ true
-first_lives log key x [] lives = subst (λ l. is_there (zone_at l key).rows x ≡ true) (append-nil log) (and_parts (is_there (zone_at (log ++ []) key).rows x) _ lives).0
-first_lives log key x (c ∷ more) lives = subst (λ l. is_there (zone_at l key).rows x ≡ true) (append-nil log) (and_parts (is_there (zone_at (log ++ []) key).rows x) _ lives).0
-
-all_alike : {X : Type 0} (p q : X → Bool) → ((x : X) → p x ≡ q x) → (xs : List X) → list_all p xs ≡ list_all q xs
-all_alike p q each [] = refl
-all_alike p q each (x ∷ xs) = (λ i. each x i && all_alike p q each xs i)
-
-rest_lives : (log : List Commit) (key : ZoneKey) (x : List ℕ) (c : Commit) (more : List Commit) → lives_through log key x (c ∷ more) → lives_through (log ++ c ∷ []) key x more
-rest_lives log key x c more lives =
-    all_alike (λ front. is_there (zone_at ((log ++ c ∷ []) ++ front) key).rows x) (λ front. is_there (zone_at (log ++ c ∷ front) key).rows x)
-    (λ front. ap (λ l. is_there (zone_at l key).rows x) (append_assoc log (c ∷ []) front)) (fronts more)
-    ∙ sym (all_moved (λ front. c ∷ front) (λ front. is_there (zone_at (log ++ front) key).rows x) (fronts more))
-    ∙ (and_parts (is_there (zone_at (log ++ []) key).rows x) _ lives).1
+rest_lives : (log : List Commit) (key : ZoneKey) (x : List ℕ) (c : Commit) (more : List Commit) → LivesThrough log key x (c ∷ more) → LivesThrough (log ++ c ∷ []) key x more
+rest_lives log key x c more lives front rest e =
+    subst (λ l. is_there (zone_at l key).rows x ≡ true) (sym (append_assoc log (c ∷ []) front)) (lives (c ∷ front) rest (ap (λ cs. c ∷ cs) e))
 
 found_of : (o : Option Record) → is_some o ≡ true → (r : Record) × (o ≡ Some r)
 found_of None e = absurd (both_ways false refl e)
 found_of (Some r) e = (r, refl)
 
-life_kept : (more log : List Commit) (key : ZoneKey) (x : List ℕ) (old new : Record) → are_lawful [] (log ++ more) ≡ true → lives_through log key x more
+life_kept : (more log : List Commit) (key : ZoneKey) (x : List ℕ) (old new : Record) → are_lawful [] (log ++ more) ≡ true → LivesThrough log key x more
     → record_at (zone_at log key).rows x ≡ Some old → record_at (zone_at (log ++ more) key).rows x ≡ Some new → new.parent ≡ old.parent
 life_kept [] log key x old new lawful lives was is =
     ap (λ (r : Record). r.parent) (same_Some new old (sym is ∙ ap (λ l. record_at (zone_at l key).rows x) (append-nil log) ∙ was))
@@ -189,6 +177,8 @@ pub lives_kept : LivesAreKept
 lives_kept = record {
   tag = λ log key x r lawful e. tag_grown log (grown log) (in_turn_back [] log lawful) key x r e;
   formed = λ log key lawful. together_so (zone_at log key).rows (well-formed log key (in_turn_back [] log lawful));
+  gone = λ log key lawful. bare-zone log key (in_turn_back [] log lawful);
+  home = λ log key lawful. home-there log key (in_turn_back [] log lawful);
   parent = λ log c key x old new lawful. parent_kept log c key x old new (in_turn_back [] (log ++ c ∷ []) lawful);
   life = λ more log key x old new lawful. life_kept more log key x old new (in_turn_back [] (log ++ more) lawful);
 }

@@ -1,9 +1,9 @@
 -- Something is committed just where some outcome tells of something written.
 use Rattle.std.proofs.Common.{◌≡◌, ℕ, zero, suc, List, [], ◌∷◌, Bool, true, false, cond, not, ◌&&◌, ◌||◌, refl, sym, ap, ◌∙◌, subst, Some, None, Option, map, length, arith, ⊎_elim}
 use Rattle.std.specs.Prelude.{find, filter, filter_map, fold, zip, is_some, if◌then◌else◌}
-use Rattle.std.specs.Option.{option_map_or, option_map}
+use Rattle.std.specs.Option.{option_map_or}
 use Rattle.std.specs.List.{list_any, list_all, cons_option, AllByRecursion}
-use Rattle.std.proofs.lemmas.Bool.{both_ways, and_from, or_left, or_right, or_cases, or_parts, true_from_ne_false}
+use Rattle.std.proofs.lemmas.Bool.{both_ways, and_from, or_left, or_right, or_cases, or_parts}
 use Rattle.name_rules.specs.Options.{is_some_and}
 use Rattle.name_rules.proofs.NameLemmas.{same-true, same-refl, kept}
 use Rattle.record_model.specs.declared.records.Record.{Record}
@@ -17,29 +17,29 @@ use Rattle.zone_model.specs.Records.{record_at, is_there, names_in, is_share, wi
 use Rattle.zone_model.specs.Zones.{zone_at, written_name}
 use Rattle.zone_model.specs.Views.{is_empty, view_of}
 use Rattle.zone_model.specs.Past.{name_history}
-use Rattle.zone_model.specs.Requests.{Caller, NamedOp, is_deletion, makes_new, puts_in, roots_in, names_deleted}
-use Rattle.zone_model.specs.Putting.{new_record, written_over, records_written}
+use Rattle.zone_model.specs.Requests.{Caller, NamedOp, is_deletion, puts_in, roots_in, names_deleted}
+use Rattle.zone_model.specs.Putting.{records_written}
 use Rattle.zone_model.specs.Working.{is_new_share_of, is_share_of, with_puts, mark_of}
 use Rattle.zone_model.specs.Grounds.{grounds_of, is_taken_by_deletion}
-use Rattle.zone_model.specs.PutChecks.{is_missing}
 use Rattle.zone_model.specs.Cascade.{is_due, reached, removed_names}
 use Rattle.zone_model.specs.Judging.{faults_of, has_fault}
 use Rattle.zone_model.specs.Effect.{Request, working, is_put, is_left, after_leaving, after_puts, removed, stamped, is_unmarked, is_written, write_of, writes, commits_with, effect}
 use Rattle.zone_model.specs.Modifying.{done, outcome_of, request_at, judgement_at, modified_as_one}
 use Rattle.zone_laws.specs.LawfulTests.{are_lawful}
 use Rattle.zone_laws.specs.Answering.{has_written, MadeWhereWritten}
-use Rattle.zone_laws.proofs.RecordLaws.{none-some, found-name}
+use Rattle.zone_laws.proofs.RecordLaws.{found-name}
 use Rattle.zone_laws.proofs.EffectLaws.{write_by}
 use Rattle.zone_laws.proofs.AfterLaws.{write_named}
-use Rattle.zone_laws.proofs.WorkingLaws.{put_at, put_over, found-working}
-use Rattle.zone_laws.proofs.CoreLaws.{share-core, changed_at, put-name}
+use Rattle.zone_laws.proofs.WorkingLaws.{put_at}
+use Rattle.zone_laws.proofs.CoreLaws.{share-core}
 use Rattle.zone_laws.proofs.JudgeLaws.{there-found}
-use Rattle.zone_laws.proofs.KeptLaws.{ground, IsFine, checked, is-new, old-after}
+use Rattle.zone_laws.proofs.KeptLaws.{IsFine, found_put, old-after}
 use Rattle.zone_laws.proofs.ParentLaws.{after_in_order, taken-gone}
 use Rattle.zone_laws.proofs.AnswerLaws.{all-refused}
 use Rattle.zone_laws.proofs.ConflictLaws.{all_judged}
 use Rattle.zone_laws.proofs.LawfulLaws.{is_fine}
-use Rattle.zone_laws.proofs.WrittenLaws.{found_write, found_put, shown_written}
+use Rattle.zone_laws.proofs.OwnLaws.{put_stays as stays}
+use Rattle.zone_laws.proofs.WrittenLaws.{found_write, shown_written}
 use Rattle.zone_laws.proofs.TestLaws.{in_turn_back}
 
 found_some : (ws : List Write) (x : List ℕ) (o : Option Write) → find (λ w. same x (written_name w)) ws ≡ o → is_some o ≡ true → is_empty ws ≡ false
@@ -59,30 +59,9 @@ module _ (q : Request) (pasts : List Past) (fine : IsFine q pasts) where
   abbrev its_mark : Record → Record
   its_mark r = record r { share = mark_of q.caller.scope q.seen q.ops (with_puts q.seen q.ops) r }
 
-  -- what is seen is in the working view
-  seen_stays : (x : List ℕ) (v : Record) → record_at q.seen x ≡ Some v → record_at (working q) x ≡ None → ⊥
-  seen_stays x v seen none =
-      let puts = puts_in q.ops in
-      let c = changed_at q.seen puts x (put_at puts x) v refl seen in
-      none-some (record_at (working q) x) (its_mark c.row) none
-      (found-working q.seen q.caller.scope q.ops x ∙ ap (λ o. option_map its_mark (put_over q.seen (put_at puts x) o)) seen ∙ ap (option_map its_mark) c.is)
-
-  put_stays_by : (o : Option Record) (x : List ℕ) (p : NamedOp) → record_at q.seen x ≡ o → put_at (puts_in q.ops) x ≡ Some p → record_at (working q) x ≡ None → ⊥
-  put_stays_by (Some v) x p seen at none = seen_stays x v seen none
-  put_stays_by None x p unseen at none =
-      let g = ground q pasts in
-      let name : x ≡ p.name = same-true x p.name (put-name (puts_in q.ops) x p at) in
-      let makes : makes_new p.kind ≡ true = true_from_ne_false (makes_new p.kind) (λ m.
-      both_ways (is_missing g p) (checked q pasts fine x p at).found (and_from (not (makes_new p.kind)) _ (ap not m) (is-new q pasts fine x p at unseen))) in
-      let written : written_over p (record_at q.seen p.name) ≡ Some (new_record p) =
-      ap (λ y. written_over p (record_at q.seen y)) (sym name) ∙ ap (written_over p) unseen ∙ ap (λ b. if b then Some (new_record p) else None) makes in
-      none-some (record_at (working q) x) (its_mark (new_record p)) none
-      (found-working q.seen q.caller.scope q.ops x ∙ ap (λ i. option_map its_mark (put_over q.seen i (record_at q.seen x))) at
-      ∙ ap (λ o. option_map its_mark (option_map_or Some o (record_at q.seen x))) written)
-
-  -- and so is what is put
+  -- what is put is in the working view
   pub put_stays : (x : List ℕ) (p : NamedOp) → put_at (puts_in q.ops) x ≡ Some p → record_at (working q) x ≡ None → ⊥
-  put_stays x p at none = put_stays_by (record_at q.seen x) x p refl at none
+  put_stays = stays q pasts fine.judged
 
   some_write : (goes written : Bool) (a : Record) → (goes || written) ≡ true → is_some (write_by q (removed q) goes written a) ≡ true
   some_write true true a e = refl

@@ -1,6 +1,6 @@
 -- What a participant may write shows in what they see.
 use Rattle.std.proofs.Common.{◌≡◌, ℕ, List, [], ◌∷◌, Bool, true, false, cond, ◌&&◌, ◌||◌, refl, sym, ap, ◌∙◌, subst, Some, None, Option, inl, inr, ⊎_elim}
-use Rattle.std.specs.Prelude.{◌⊎◌, filter, find, nat_le, if◌then◌else◌}
+use Rattle.std.specs.Prelude.{◌⊎◌, filter, nat_le, if◌then◌else◌}
 use Rattle.std.specs.List.{list_any, list_all}
 use Rattle.std.proofs.lemmas.Bool.{both_ways, and_parts, and_from, or_left, or_right, or_cases, cond-true}
 use Rattle.std.proofs.lemmas.Option.{same_Some}
@@ -17,11 +17,11 @@ use Rattle.name_rules.specs.Options.{is_some_and}
 use Rattle.zone_model.specs.Records.{record_at, names_in, share_of, IsAscending}
 use Rattle.share_records.specs.Permissions.{rank, permission_in, gives, has_accepted}
 use Rattle.zone_model.specs.Zones.{zone_at}
-use Rattle.zone_model.specs.Ancestry.{IsAncestor, ancestors, is_ancestor}
+use Rattle.zone_model.specs.Ancestry.{IsAncestor, is_ancestor}
 use Rattle.name_rules.specs.Parents.{here, up}
 use Rattle.zone_model.specs.Coverage.{covers, may_write}
 use Rattle.zone_model.specs.Views.{nowhere, is_visible, owner_view, participant_view, view_of}
-use Rattle.zone_model.specs.Grounds.{grounds_of, is_seen}
+use Rattle.zone_model.specs.Grounds.{grounds_of}
 use Rattle.zone_laws.specs.Laws.{IsParticipantsZone, PermissionsAreSeen, IsCoveredBy, NothingElseIsSeen}
 use Rattle.name_rules.proofs.NameLemmas.{same-true, same-refl}
 use Rattle.zone_laws.proofs.AncestryLaws.{is_ancestor_from, is_ancestor_gives, record_reaches, gives_at-records}

@@ -12,7 +12,7 @@ use Rattle.zone_laws.specs.Answering.{AreStamped, PutsAreShown, DeletionsAreShow
 use Rattle.zone_laws.specs.Stepping.{AtEachStep, tells_written_at, StepsKeepTheLaws}
 use Rattle.zone_laws.proofs.TestLaws.{in_turn_so, in_turn_back}
 use Rattle.zone_laws.proofs.LawfulLaws.{lawful-effect, lawful-append, there-after, one_root}
-use Rattle.zone_laws.proofs.WrittenLaws.{stamps_set, outcomes_written, shared_writes_allowed}
+use Rattle.zone_laws.proofs.WrittenLaws.{stamps_set, outcomes_written, writes_allowed}
 use Rattle.zone_laws.proofs.DeletionLaws.{deletions_written}
 use Rattle.zone_laws.proofs.MadeLaws.{made_where_written}
 
@@ -63,10 +63,9 @@ steps_kept = record {
   stamped = λ caller moment. at_each caller moment (AreStamped caller moment) (λ log op lawful there. stamps_set caller moment log (op ∷ []) lawful there (one_root op));
   puts_shown = λ caller moment. at_each caller moment (PutsAreShown caller moment) (λ log op lawful there. outcomes_written caller moment log (op ∷ []) lawful there (one_root op));
   deletions_shown = λ caller moment. at_each caller moment (DeletionsAreShown caller moment) (λ log op lawful there. deletions_written caller moment log (op ∷ []) lawful there (one_root op));
-  allowed = λ caller moment log ops shared.
-      at_each caller moment (AreAllowed caller moment) (λ found op lawful there. shared_writes_allowed.writes caller moment found (op ∷ []) shared lawful there (one_root op)) log ops;
+  allowed = λ caller moment. at_each caller moment (AreAllowed caller moment) (λ log op lawful there. writes_allowed.writes caller moment log (op ∷ []) lawful there (one_root op));
   permitted = λ caller moment log ops shared.
-      at_any caller moment (ArePermitted caller moment) (λ found op. shared_writes_allowed.asked caller moment found (op ∷ []) shared) ops log;
+      at_any caller moment (ArePermitted caller moment) (λ found op. writes_allowed.asked caller moment found (op ∷ []) shared) ops log;
   made = λ caller moment. at_each caller moment (λ found op. not (is_empty (effect_at caller moment found op)) ≡ tells_written caller moment found op) (made_at caller moment);
   all_made = λ caller moment log ops lawful there. all_made caller moment ops log (in_turn_back [] log lawful) there;
 }

@@ -1,11 +1,11 @@
 -- The test of what may be written passes just where the nearest name in the view may be written.
-use Rattle.std.proofs.Common.{◌≡◌, ℕ, zero, suc, List, [], ◌∷◌, Bool, true, false, cond, refl, sym, ap, ◌∙◌, subst, Some, None, Option, inl, inr, ⊎_elim, length}
+use Rattle.std.proofs.Common.{◌≡◌, ℕ, zero, suc, List, [], ◌∷◌, Bool, true, false, cond, refl, sym, ap, ◌∙◌, subst, Some, None, Option, inl, inr, length}
 use Rattle.std.specs.Prelude.{◌⊎◌, find}
 use Rattle.std.specs.Option.{option_map_or}
 use Rattle.std.proofs.lemmas.Bool.{both_ways, or_cases}
 use Rattle.std.proofs.lemmas.Option.{same_Some}
 use Rattle.name_rules.specs.Options.{is_some_and}
-use Rattle.name_rules.specs.Parents.{here, up, upward, parent_of}
+use Rattle.name_rules.specs.Parents.{here, up, upward}
 use Rattle.name_rules.proofs.NameLemmas.{same-true}
 use Rattle.zone_model.specs.Names.{same, is_in}
 use Rattle.zone_model.specs.Ancestry.{links_of, parent_at, ancestors, IsAncestor}

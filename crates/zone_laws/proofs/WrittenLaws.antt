@@ -1,4 +1,4 @@
--- What a request writes: its stamps, what its outcomes show of it, and what the shared scope allows.
+-- What a request writes: its stamps, what its outcomes show of it, and what is allowed.
 use Rattle.std.proofs.Common.{◌≡◌, ℕ, List, [], ◌∷◌, Bool, true, false, cond, not, ◌&&◌, ◌||◌, refl, sym, ap, ◌∙◌, subst, Some, None, Option, map, inl, inr, ⊎_elim, append-nil}
 use Rattle.std.specs.Prelude.{find, filter_map, zip, is_some, if◌then◌else◌}
 use Rattle.std.specs.Option.{option_map_or, option_map}
@@ -15,10 +15,10 @@ use Rattle.zone_model.specs.declared.outcomes.Outcome.TheVariants.{Put as Answer
 use Rattle.zone_model.specs.declared.commits.Write.{Write}
 use Rattle.zone_model.specs.declared.commits.Write.TheVariants.{Put, Remove, PutRemove}
 use Rattle.zone_model.specs.declared.commits.Commit.{Commit}
-use Rattle.zone_model.specs.Names.{same, is_in, is_shared, has_twice}
+use Rattle.zone_model.specs.Names.{same, is_in, is_private, is_shared, has_twice}
 use Rattle.zone_model.specs.Records.{record_at, is_there, names_in, is_share, IsAscending}
 use Rattle.zone_model.specs.Zones.{zone_at, written_name}
-use Rattle.zone_model.specs.Requests.{Caller, NamedOp, is_deletion, has_share_type, makes_new, root_given, puts_in, roots_in, names_deleted}
+use Rattle.zone_model.specs.Requests.{Caller, NamedOp, is_deletion, has_share_type, makes_new, begins_share, root_given, puts_in, roots_in, names_deleted}
 use Rattle.zone_model.specs.Putting.{new_record}
 use Rattle.zone_model.specs.Working.{is_new_share_of, is_share_of, with_puts, mark_of}
 use Rattle.zone_model.specs.Grounds.{names_taken, grounds_of}
@@ -31,7 +31,7 @@ use Rattle.zone_model.specs.Views.{view_of}
 use Rattle.zone_model.specs.Modifying.{done, outcome_of, request_at, judgement_at, effect_at, modified_as_one}
 use Rattle.zone_laws.specs.LawfulTests.{are_lawful}
 use Rattle.zone_laws.proofs.SharedLaws.{asked_permitted}
-use Rattle.zone_laws.specs.Answering.{writes_made, IsStamped, StampsAreSet, IsWritten, IsShownWritten, OutcomesAreWritten, IsAllowed, SharedWritesAreAllowed, AnyLeastSetWillDo}
+use Rattle.zone_laws.specs.Answering.{writes_made, IsStamped, StampsAreSet, IsOf, IsWritten, IsShownWritten, OutcomesAreWritten, has_begun_share, IsAllowed, WritesAreAllowed, AnyLeastSetWillDo}
 use Rattle.zone_laws.proofs.RecordLaws.{none-some, found-name, found-below, later_step}
 use Rattle.zone_laws.proofs.EffectLaws.{write_by}
 use Rattle.zone_laws.proofs.AfterLaws.{ascending-working, write_named}
@@ -41,7 +41,7 @@ use Rattle.zone_laws.proofs.CascadeLaws.{least-same}
 use Rattle.zone_laws.proofs.WorkingLaws.{put_at, put_over, found-working}
 use Rattle.zone_laws.proofs.CoreLaws.{Core, core, share-core, share_of-core, new-root, changed_at, put-name}
 use Rattle.zone_laws.proofs.JudgeLaws.{there-found}
-use Rattle.zone_laws.proofs.KeptLaws.{ground, IsFine, any_put, checked, seen-in-working, new-in-working, after_is}
+use Rattle.zone_laws.proofs.KeptLaws.{ground, IsFine, any_put, any-found, found_put, checked, seen-in-working, new-in-working, after_is}
 use Rattle.zone_laws.proofs.ParentLaws.{after_in_order}
 use Rattle.zone_laws.proofs.LawfulLaws.{is_fine}
 use Rattle.zone_laws.proofs.TestLaws.{in_turn_back}
@@ -63,11 +63,6 @@ unseen_of : (rows : List Record) (y : List ℕ) (o : Option Record) → record_a
 unseen_of rows y None is e = is
 unseen_of rows y (Some r) is e = absurd (both_ways false refl (sym (ap not (there-found rows y ∙ ap is_some is)) ∙ e))
 
-found_put_step : (s : Bool) (p : NamedOp) (ps : List NamedOp) (x : List ℕ) → (list_any (λ (t : NamedOp). same x t.name) ps ≡ true → (q : NamedOp) × (put_at ps x ≡ Some q))
-    → (s || list_any (λ (t : NamedOp). same x t.name) ps) ≡ true → (q : NamedOp) × (cond s (Some p) (put_at ps x) ≡ Some q)
-found_put_step true p ps x rest e = (p, refl)
-found_put_step false p ps x rest e = rest e
-
 typed_by : (h : Bool) (o : Option (List ℕ)) (x : List ℕ) → is_some_and (same x) (if h then o else None) ≡ true → h ≡ true
 typed_by true o x e = refl
 typed_by false o x e = e
@@ -75,6 +70,15 @@ typed_by false o x e = e
 -- a new share has the type of shares
 typed : (x : List ℕ) (s : Record) (p : NamedOp) → core s ≡ core (new_record p) → is_share_of x s ≡ true → has_share_type p.draft ≡ true
 typed x s p is e = typed_by (has_share_type p.draft) (root_given p.draft) x
+    (ap (is_some_and (same x)) (sym (ap (λ (c : Core). c.root) is ∙ new-root p)) ∙ sym (share_of-core x s) ∙ e)
+
+rooted_by : (h : Bool) (o : Option (List ℕ)) (x : List ℕ) → is_some_and (same x) (if h then o else None) ≡ true → is_some_and (same x) o ≡ true
+rooted_by true o x e = e
+rooted_by false o x e = absurd (both_ways false refl e)
+
+-- and the root that its put gives
+rooted : (x : List ℕ) (s : Record) (p : NamedOp) → core s ≡ core (new_record p) → is_share_of x s ≡ true → is_some_and (same x) (root_given p.draft) ≡ true
+rooted x s p is e = rooted_by (has_share_type p.draft) (root_given p.draft) x
     (ap (is_some_and (same x)) (sym (ap (λ (c : Core). c.root) is ∙ new-root p)) ∙ sym (share_of-core x s) ∙ e)
 
 -- ---- writes, one for each record
@@ -197,9 +201,13 @@ module _ (q : Request) (pasts : List Past) (fine : IsFine q pasts) where
       let v = seen_by (record_at q.seen r.name) r.name refl c.1 in
       left_share x p r v.0 at is (subst (λ y. record_at q.seen y ≡ Some v.0) (sym name) v.1) a.0 c.0)
 
+  unmarked_by : (b : Bool) (r : Record) → IsOf (stamped q r) (Put (record (stamped q r) { share = if b then None else r.share }))
+  unmarked_by true r = inr refl
+  unmarked_by false r = inl refl
+
   shown_by : (goes : Bool) (r : Record) → find (λ w. same r.name (written_name w)) (writes q (removed q)) ≡ write_by q (removed q) goes true r → IsWritten (writes q (removed q)) (stamped q r)
   shown_by true r e = record { write = PutRemove r.name; found = e; is = refl }
-  shown_by false r e = record { write = Put (final q (removed q) r); found = e; is = refl }
+  shown_by false r e = record { write = Put (final q (removed q) r); found = e; is = unmarked_by (is_unmarked q (removed q) r) r }
 
   pub shown_written : (x : List ℕ) (p : NamedOp) (r : Record) → put_at (puts_in q.ops) x ≡ Some p → record_at (working q) x ≡ Some r → IsWritten (writes q (removed q)) (stamped q r)
   shown_written x p r at is =
@@ -212,7 +220,7 @@ module _ (q : Request) (pasts : List Past) (fine : IsFine q pasts) where
       shown_by (is_in (removed q) r.name) r (subst (λ y. find (λ w. same y (written_name w)) (writes q (removed q)) ≡ write_of q (removed q) r) name found
       ∙ ap (λ b. write_by q (removed q) (is_in (removed q) r.name) b r) written)
 
-  -- ---- what the shared scope allows
+  -- ---- what is allowed
 
   no_new_share : is_shared q.caller.scope ≡ true → (s : Record) (x : List ℕ) → record_at (working q) s.name ≡ Some s → is_new_share_of q.seen x s ≡ true → ⊥
   no_new_share shared s x at e =
@@ -231,29 +239,42 @@ module _ (q : Request) (pasts : List Past) (fine : IsFine q pasts) where
       let s = found-any (is_new_share_of q.seen x) (working q) (ascending-working q fine.seen_in_order) e in
       no_new_share shared s.0 x s.1 s.2
 
-  allowed_by : (goes : Bool) (a : Record) (w : Write) → is_shared q.caller.scope ≡ true → is_in (removed q) a.name ≡ goes → (written : Bool) → is_written q (removed q) a ≡ written → write_by q (removed q) goes written a ≡ Some w → IsAllowed q (removed q) w
-  allowed_by true a w shared gone true is e = subst (IsAllowed q (removed q)) (same_Some (PutRemove a.name) w e) gone
-  allowed_by true a w shared gone false is e = subst (IsAllowed q (removed q)) (same_Some (Remove a.name) w e) gone
-  allowed_by false a w shared gone false is e = absurd (none_written w e)
-  allowed_by false a w shared gone true is e = subst (IsAllowed q (removed q)) (same_Some (Put (final q (removed q) a)) w e) (⊎_elim
+  -- a share that only the working view has is begun by a put
+  begun_by : (s : Record) (x : List ℕ) → record_at (working q) s.name ≡ Some s → is_new_share_of q.seen x s ≡ true
+      → list_any (λ (p : NamedOp). begins_share q.seen p && is_some_and (same x) (root_given p.draft)) (puts_in q.ops) ≡ true
+  begun_by s x at e =
+      let parts = and_parts (is_share_of x s) _ e in
+      let new = new-in-working q pasts fine s.name s (unseen_of q.seen s.name (record_at q.seen s.name) refl parts.1) at in
+      let name : s.name ≡ new.put.name = same-true s.name new.put.name (put-name (puts_in q.ops) s.name new.put new.at) in
+      let missing : not (is_there q.seen new.put.name) ≡ true = subst (λ y. not (is_there q.seen y) ≡ true) name parts.1 in
+      let begun : begins_share q.seen new.put ≡ true = and_from (makes_new new.put.kind) _ new.makes (and_from (not (is_there q.seen new.put.name)) _ missing (typed x s new.put new.is parts.0)) in
+      any-found (λ (p : NamedOp). begins_share q.seen p && is_some_and (same x) (root_given p.draft)) (puts_in q.ops) s.name new.put new.at
+      (and_from (begins_share q.seen new.put) _ begun (rooted x s new.put new.is parts.0))
+
+  marked_by : (b : Bool) (x : List ℕ) → is_private q.caller.scope ≡ b → list_any (is_new_share_of q.seen x) (working q) ≡ true → has_begun_share q x ≡ true
+  marked_by true x scope e =
+      let s = found-any (is_new_share_of q.seen x) (working q) (ascending-working q fine.seen_in_order) e in
+      and_from (is_private q.caller.scope) _ scope (begun_by s.0 x s.1 s.2)
+  marked_by false x scope e = absurd (unmarked_by_new (ap not scope) x e)
+
+  allowed_by : (goes : Bool) (a : Record) (w : Write) → is_in (removed q) a.name ≡ goes → (written : Bool) → is_written q (removed q) a ≡ written → write_by q (removed q) goes written a ≡ Some w → IsAllowed q (removed q) w
+  allowed_by true a w gone true is e = subst (IsAllowed q (removed q)) (same_Some (PutRemove a.name) w e) gone
+  allowed_by true a w gone false is e = subst (IsAllowed q (removed q)) (same_Some (Remove a.name) w e) gone
+  allowed_by false a w gone false is e = absurd (none_written w e)
+  allowed_by false a w gone true is e = subst (IsAllowed q (removed q)) (same_Some (Put (final q (removed q) a)) w e) (⊎_elim
       (λ (h : is_put q a.name ≡ true). ⊎_elim
       (λ (i : list_any (λ (p : NamedOp). same a.name p.name) (puts_in q.ops) ≡ true). inl i)
-      (λ (i : list_any (is_new_share_of q.seen a.name) (working q) ≡ true). absurd (unmarked_by_new shared a.name i))
+      (λ (i : list_any (is_new_share_of q.seen a.name) (working q) ≡ true). inr (inr (inl (marked_by (is_private q.caller.scope) a.name refl i))))
       (or_cases (list_any (λ (p : NamedOp). same a.name p.name) (puts_in q.ops)) (list_any (is_new_share_of q.seen a.name) (working q)) h))
       (λ (h : (is_left q a || is_unmarked q (removed q) a) ≡ true). ⊎_elim
       (λ (i : is_left q a ≡ true). inr (inl i))
-      (λ (i : is_unmarked q (removed q) a ≡ true). inr (inr (and_parts (not (is_in (removed q) a.name)) _ i).1))
+      (λ (i : is_unmarked q (removed q) a ≡ true). inr (inr (inr (and_parts (not (is_in (removed q) a.name)) _ i).1)))
       (or_cases (is_left q a) (is_unmarked q (removed q) a) h))
       (or_cases (is_put q a.name) (is_left q a || is_unmarked q (removed q) a) is))
 
-  pub all_allowed : is_shared q.caller.scope ≡ true → AllByRecursion (IsAllowed q (removed q)) (writes q (removed q))
-  all_allowed shared = all_written (IsAllowed q (removed q)) (write_of q (removed q)) (after_puts q) (after_in_order q pasts fine)
-      (λ x a w at e. allowed_by (is_in (removed q) a.name) a w shared refl (is_written q (removed q) a) refl e)
-
--- a name that some put has
-pub found_put : (ps : List NamedOp) (x : List ℕ) → list_any (λ (t : NamedOp). same x t.name) ps ≡ true → (p : NamedOp) × (put_at ps x ≡ Some p)
-found_put [] x e = absurd (both_ways false refl e)
-found_put (p ∷ ps) x e = found_put_step (same x p.name) p ps x (found_put ps x) e
+  pub all_allowed : AllByRecursion (IsAllowed q (removed q)) (writes q (removed q))
+  all_allowed = all_written (IsAllowed q (removed q)) (write_of q (removed q)) (after_puts q) (after_in_order q pasts fine)
+      (λ x a w at e. allowed_by (is_in (removed q) a.name) a w refl (is_written q (removed q) a) refl e)
 
 -- ---- at a log
 
@@ -275,8 +296,8 @@ module _ (caller : Caller) (moment : ℕ) (log : List Commit) (ops : List NamedO
   stamps_at : AllByRecursion (IsStamped (zone_at log caller.key).rows (record { moment = moment; user = caller.user })) (writes_made (effect_at caller moment log ops))
   stamps_at = its_writes (IsStamped (zone_at log caller.key).rows (stamp its_request)) (λ judged. all_stamped its_request _ (is_fine caller moment log ops lawful there roots judged)) (has_fault (judgement_at caller moment log ops)) refl
 
-  allowed_at : is_shared caller.scope ≡ true → AllByRecursion (IsAllowed its_request (removed its_request)) (writes_made (effect_at caller moment log ops))
-  allowed_at shared = its_writes (IsAllowed its_request (removed its_request)) (λ judged. all_allowed its_request _ (is_fine caller moment log ops lawful there roots judged) shared) (has_fault (judgement_at caller moment log ops)) refl
+  allowed_at : AllByRecursion (IsAllowed its_request (removed its_request)) (writes_made (effect_at caller moment log ops))
+  allowed_at = its_writes (IsAllowed its_request (removed its_request)) (λ judged. all_allowed its_request _ (is_fine caller moment log ops lawful there roots judged)) (has_fault (judgement_at caller moment log ops)) refl
 
   -- outcomes
 
@@ -348,7 +369,8 @@ module _ (q : Request) (gone : List (List ℕ)) (is : (x : List ℕ) → is_in g
   allowed_one : (w : Write) → IsAllowed q (removed q) w → IsAllowed q gone w
   allowed_one (Put r) (inl asked) = inl asked
   allowed_one (Put r) (inr (inl left)) = inr (inl left)
-  allowed_one (Put r) (inr (inr marked)) = inr (inr ((λ i. list_any (λ (s : Record). is_share_of r.name s && is s.name i) (after_puts q)) ∙ marked))
+  allowed_one (Put r) (inr (inr (inl begun))) = inr (inr (inl begun))
+  allowed_one (Put r) (inr (inr (inr lost))) = inr (inr (inr ((λ i. list_any (λ (s : Record). is_share_of r.name s && is s.name i) (after_puts q)) ∙ lost)))
   allowed_one (Remove x) e = is x ∙ e
   allowed_one (PutRemove x) e = is x ∙ e
 
@@ -356,11 +378,11 @@ module _ (q : Request) (gone : List (List ℕ)) (is : (x : List ℕ) → is_in g
   allowed_all [] all = tt
   allowed_all (w ∷ ws) all = (allowed_one w all.0, allowed_all ws all.1)
 
-pub shared_writes_allowed : SharedWritesAreAllowed
-shared_writes_allowed = record {
-  writes = λ caller moment log ops shared lawful there roots gone least.
+pub writes_allowed : WritesAreAllowed
+writes_allowed = record {
+  writes = λ caller moment log ops lawful there roots gone least.
       let q = request_at caller moment log ops in
-      allowed_all q gone (least_is q gone least) (writes_made (effect_at caller moment log ops)) (allowed_at caller moment log ops (in_turn_back [] log lawful) there roots shared);
+      allowed_all q gone (least_is q gone least) (writes_made (effect_at caller moment log ops)) (allowed_at caller moment log ops (in_turn_back [] log lawful) there roots);
   asked = asked_permitted;
 }
 

@@ -1,7 +1,7 @@
 -- What a request is answered, and what it commits.
 use Rattle.std.specs.Prelude.{◌≡◌, ◌≤◌, ◌⊎◌, ℕ, Bool, true, false, not, ◌&&◌, List, [], length, find, Some, None}
 use Rattle.std.specs.Option.{option_map_or}
-use Rattle.std.specs.List.{list_any, list_all, flat_map, AllByRecursion}
+use Rattle.std.specs.List.{list_any, list_all, flat_map, AllByRecursion, AllZip}
 use Rattle.share_records.specs.declared.share.Share.{Share as ShareOf}
 use Rattle.share_records.specs.ShareLists.{participant_at}
 use Rattle.record_model.specs.declared.records.Record.{Record}
@@ -11,11 +11,12 @@ use Rattle.zone_model.specs.declared.outcomes.Outcome.TheVariants.{Put as Answer
 use Rattle.zone_model.specs.declared.commits.Write.{Write}
 use Rattle.zone_model.specs.declared.commits.Write.TheVariants.{Put, Remove, PutRemove}
 use Rattle.zone_model.specs.declared.commits.Commit.{Commit}
-use Rattle.zone_model.specs.Names.{same, is_in, has_twice, is_shared}
+use Rattle.zone_model.specs.Names.{same, is_in, has_twice, is_private, is_shared}
+use Rattle.name_rules.specs.Options.{is_some_and}
 use Rattle.zone_model.specs.Records.{record_at, is_there, share_of}
 use Rattle.zone_model.specs.Zones.{zone_at, written_name}
 use Rattle.zone_model.specs.Views.{is_empty, view_of}
-use Rattle.zone_model.specs.Requests.{Caller, NamedOp, puts_in, roots_in}
+use Rattle.zone_model.specs.Requests.{Caller, NamedOp, is_deletion, begins_share, root_given, puts_in, roots_in}
 use Rattle.zone_model.specs.Working.{is_share_of}
 use Rattle.zone_model.specs.Past.{name_history}
 use Rattle.zone_model.specs.Grounds.{names_taken, grounds_of}
@@ -30,11 +31,19 @@ is_refusal (Answered r) = false
 is_refusal (Deleted x) = false
 is_refusal (Refused fault server) = true
 
--- There is one outcome for each operation, and at most one commit. What is judged as one makes at most one commit for
--- all; where something is refused, all is refused and nothing is committed.
+-- a put is answered with a record of its name, a deletion with its name
+abbrev pub IsAnswerTo : NamedOp → Outcome → Type 0
+IsAnswerTo op (Answered r) = (is_deletion op.kind ≡ false) × (r.name ≡ op.name)
+IsAnswerTo op (Deleted x) = (is_deletion op.kind ≡ true) × (x ≡ op.name)
+IsAnswerTo op (Refused fault server) = Unit {0}
+
+-- There is one outcome for each operation, which tells of that one, and at most one commit. What is judged as one makes at most
+-- one commit for all; where something is refused, all is refused and nothing is committed.
 pub record EachIsAnswered : Type 0 where
   pub each : (caller : Caller) (moment : ℕ) (log : List Commit) (atomic : Bool) (ops : List NamedOp)
       → length (modified caller moment log atomic ops).outcomes ≡ length ops
+  pub own : (caller : Caller) (moment : ℕ) (log : List Commit) (atomic : Bool) (ops : List NamedOp)
+      → AllZip IsAnswerTo ops (modified caller moment log atomic ops).outcomes
   pub few : (caller : Caller) (moment : ℕ) (log : List Commit) (atomic : Bool) (ops : List NamedOp)
       → is_judged_as_one caller.key atomic ≡ false
       → length (modified caller moment log atomic ops).commits ≤ length ops
@@ -70,9 +79,9 @@ StampsAreSet = (caller : Caller) (moment : ℕ) (log : List Commit) (ops : List 
     → MayFollowInTurn [] log → (zone_at log caller.key).there ≡ true → has_twice (roots_in ops) ≡ false
     → AreStamped caller moment log ops
 
--- the write puts the record, but perhaps for its share mark, or puts and removes it at once
+-- the write puts the record, or puts it without its share mark, or puts and removes it at once
 abbrev pub IsOf : Record → Write → Type 0
-IsOf r (Put t) = record t { share = r.share } ≡ r
+IsOf r (Put t) = (t ≡ r) ⊎ (t ≡ record r { share = None })
 IsOf r (Remove x) = ⊥
 IsOf r (PutRemove x) = x ≡ r.name
 
@@ -125,12 +134,21 @@ DeletionsAreWritten = (caller : Caller) (moment : ℕ) (log : List Commit) (ops 
     → MayFollowInTurn [] log → (zone_at log caller.key).there ≡ true → has_twice (roots_in ops) ≡ false
     → DeletionsAreShown caller moment log ops
 
--- In the shared scope a put is one that the request asks for, or of a share that the user leaves, or of a root whose
--- share is among the names that go; and what is removed is among them.
+-- in the private scope some put of the request begins a share of that root
+abbrev pub has_begun_share : Request → List ℕ → Bool
+has_begun_share q root = is_private q.caller.scope
+    && list_any (λ (p : NamedOp). begins_share q.seen p && is_some_and (same root) (root_given p.draft)) (puts_in q.ops)
+
+-- the share of that root is among the names that go
+abbrev pub has_lost_share : Request → List (List ℕ) → List ℕ → Bool
+has_lost_share q gone root = list_any (λ (s : Record). is_share_of root s && is_in gone s.name) (after_puts q)
+
+-- A put is one that the request asks for, or of a share that the user leaves in the shared scope, or of a root whose share the
+-- request begins or whose share is among the names that go; and what is removed is among them.
 abbrev pub IsAllowed : Request → List (List ℕ) → Write → Type 0
 IsAllowed q gone (Put r) =
     (list_any (λ (p : NamedOp). same r.name p.name) (puts_in q.ops) ≡ true)
-    ⊎ ((is_left q r ≡ true) ⊎ (list_any (λ (s : Record). is_share_of r.name s && is_in gone s.name) (after_puts q) ≡ true))
+    ⊎ ((is_left q r ≡ true) ⊎ ((has_begun_share q r.name ≡ true) ⊎ (has_lost_share q gone r.name ≡ true)))
 IsAllowed q gone (Remove x) = is_in gone x ≡ true
 IsAllowed q gone (PutRemove x) = is_in gone x ≡ true
 
@@ -147,9 +165,8 @@ ArePermitted caller moment log ops = is_empty (effect_at caller moment log ops) 
     → (let seen = (view_of log caller.user caller.scope caller.key).rows in
     AllByRecursion (IsPermittedOp (grounds_of caller (name_history log caller.key ops) seen ops)) ops)
 
-pub record SharedWritesAreAllowed : Type 0 where
+pub record WritesAreAllowed : Type 0 where
   pub writes : (caller : Caller) (moment : ℕ) (log : List Commit) (ops : List NamedOp)
-      → is_shared caller.scope ≡ true
       → MayFollowInTurn [] log → (zone_at log caller.key).there ≡ true → has_twice (roots_in ops) ≡ false
       → AreAllowed caller moment log ops
   pub asked : (caller : Caller) (moment : ℕ) (log : List Commit) (ops : List NamedOp)

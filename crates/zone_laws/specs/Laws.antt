@@ -1,5 +1,5 @@
 -- The laws of the rules.
-use Rattle.std.specs.Prelude.{◌≡◌, ⊤, find, Some, None, ◌<◌, ◌≤◌, ◌+◌, ◌^◌, ℕ, suc, length, map, is_some, Bool, true, false, List, [], ◌∷◌, ◌++◌, drop, fold, zip, Option, option_and_then, ◌⊎◌, if◌then◌else◌}
+use Rattle.std.specs.Prelude.{◌≡◌, ⊤, Some, None, ◌<◌, ◌≤◌, ◌+◌, ◌^◌, ℕ, suc, length, map, is_some, Bool, true, false, List, [], ◌∷◌, ◌++◌, drop, fold, zip, Option, option_and_then, ◌⊎◌, if◌then◌else◌}
 use Rattle.std.specs.List.{list_any, AllByRecursion}
 use Rattle.ck_base.specs.Names.{IsName}
 use Rattle.ck_base.specs.Guids.{IsGuid}
@@ -27,7 +27,7 @@ use Rattle.share_records.specs.Permissions.{has_accepted}
 use Rattle.zone_model.specs.Same.{same_record, same_view}
 use Rattle.zone_model.specs.Zones.{zone_at, after_act, commits_at, act_puts, puts_at}
 use Rattle.zone_model.specs.Subscriptions.{subscriptions_at, subscriptions_after}
-use Rattle.zone_model.specs.Ancestry.{IsAncestor, ancestors, is_ancestor}
+use Rattle.zone_model.specs.Ancestry.{IsAncestor, is_ancestor}
 use Rattle.zone_model.specs.Views.{nowhere, view_of, views_at_fronts, without_repeats, views_of, last_view}
 use Rattle.zone_model.specs.Entries.{changed, entries}
 use Rattle.zone_model.specs.Pages.{page}
@@ -38,7 +38,7 @@ use Rattle.zone_model.specs.Cascade.{IsLeast, removed_names}
 use Rattle.zone_model.specs.Requests.{Caller, NamedOp, is_deletion, is_forced, begins_share, new_parent, root_given, root_tag_given, puts_in, roots_in}
 use Rattle.zone_model.specs.Grounds.{Grounds, grounds_of, is_seen, is_stale, is_writable}
 use Rattle.zone_model.specs.Judging.{judgement}
-use Rattle.zone_model.specs.Effect.{Request, removed, writes}
+use Rattle.zone_model.specs.Effect.{Request, writes}
 use Rattle.plain_creates.specs.PlainCreates.{IsOwner, is_plain_named, refusal_of_create, created_record}
 use Rattle.plain_creates.specs.OnePuts.{commit_of_put, IsOnePut, last_put, count_puts}
 use Rattle.zone_model.specs.Form.{IsKey, are_in_order, IsInForm}

@@ -19,8 +19,8 @@ abbrev pub tells_written_at : Caller → ℕ → Step → Bool
 tells_written_at caller moment s = tells_written caller moment s.log (s.op ∷ [])
 
 -- Each operation finds a log whose commits follow each other, and the zone is there. Its puts have the moment and the user, what its outcome
--- shows was written, and in the shared scope it writes only what its user may write. It commits something just where its outcome tells so,
--- and so do all of them.
+-- shows was written, and it writes only what it asks for and what comes of that; in the shared scope it is permitted where it writes. It
+-- commits something just where its outcome tells so, and so do all of them.
 pub record StepsKeepTheLaws : Type 0 where
   pub found : (caller : Caller) (moment : ℕ) (log : List Commit) (ops : List NamedOp)
       → MayFollowInTurn [] log → (zone_at log caller.key).there ≡ true
@@ -34,7 +34,7 @@ pub record StepsKeepTheLaws : Type 0 where
   pub deletions_shown : (caller : Caller) (moment : ℕ) (log : List Commit) (ops : List NamedOp)
       → MayFollowInTurn [] log → (zone_at log caller.key).there ≡ true
       → AtEachStep caller moment log ops (DeletionsAreShown caller moment)
-  pub allowed : (caller : Caller) (moment : ℕ) (log : List Commit) (ops : List NamedOp) → is_shared caller.scope ≡ true
+  pub allowed : (caller : Caller) (moment : ℕ) (log : List Commit) (ops : List NamedOp)
       → MayFollowInTurn [] log → (zone_at log caller.key).there ≡ true
       → AtEachStep caller moment log ops (AreAllowed caller moment)
   pub permitted : (caller : Caller) (moment : ℕ) (log : List Commit) (ops : List NamedOp) → is_shared caller.scope ≡ true

@@ -1,5 +1,5 @@
 // What holds of the rules. The functions do nothing: their clauses are the laws.
-ghost use Rattle.zone_laws.specs.Answering.{EachIsAnswered, StampsAreSet, OutcomesAreWritten, DeletionsAreWritten, SharedWritesAreAllowed, AnyLeastSetWillDo, MadeWhereWritten};
+ghost use Rattle.zone_laws.specs.Answering.{EachIsAnswered, StampsAreSet, OutcomesAreWritten, DeletionsAreWritten, WritesAreAllowed, AnyLeastSetWillDo, MadeWhereWritten};
 ghost use Rattle.zone_laws.specs.Stepping.{StepsKeepTheLaws};
 ghost use Rattle.zone_laws.specs.Following.{PagesHold, FeedsTellAll, SeenIsTold};
 ghost use Rattle.zone_laws.specs.People.{NobodyIsLetIn};
@@ -176,7 +176,8 @@ pub fn shared_changes_are_permitted()
 {}
 
 /// In each lawful log a record's tag is the count of its puts, its parent is kept through its life,
-/// and the records of a zone fit together.
+/// and the records of a zone fit together; a zone that is not there holds nothing, and a default zone
+/// is always there.
 pub fn lives_are_kept()
     ensures { LivesAreKept }
 {}
@@ -197,8 +198,8 @@ pub fn feeds_tell_all()
     ensures { FeedsTellAll }
 {}
 
-/// A request has an outcome for each operation; where it is judged as one it makes at most one
-/// commit, and none where something is refused.
+/// A request has an outcome for each operation, which tells of that one; where it is judged as one it
+/// makes at most one commit, and none where something is refused.
 pub fn each_is_answered()
     ensures { EachIsAnswered }
 {}
@@ -214,8 +215,8 @@ pub fn stamps_are_set()
     ensures { StampsAreSet }
 {}
 
-/// What an outcome shows of a put is what its commit wrote, but for the share mark, or was put and
-/// removed at once.
+/// What an outcome shows of a put is what its commit wrote, or wrote without the share mark, or put
+/// and removed at once.
 pub fn outcomes_are_written()
     ensures { OutcomesAreWritten }
 {}
@@ -226,10 +227,11 @@ pub fn deletions_are_written()
     ensures { DeletionsAreWritten }
 {}
 
-/// In the shared scope a request writes only what it asks for, what its user leaves and what the
-/// cascade makes of it; and where it writes, each of its operations is permitted.
-pub fn shared_writes_are_allowed()
-    ensures { SharedWritesAreAllowed }
+/// A request writes only what it asks for, the roots of shares that it begins, what its user leaves
+/// and what the cascade makes of it; and where it writes in the shared scope, each of its operations
+/// is permitted.
+pub fn writes_are_allowed()
+    ensures { WritesAreAllowed }
 {}
 
 /// The commit of a request rests on any least set of removed names, however it is found.

@@ -69,7 +69,7 @@ has_share_type d = is_some_and is_share_type d.rtype
 
 -- ---- the operations of a request
 
--- an operation with the name of its record, and with the GUID for the share that it begins, which is empty where it begins none
+-- an operation with the name of its record, and with the GUID that is drawn for it where it gives a root, for a share that it may begin, and else none
 pub record NamedOp : Type 0 where
   pub kind : OpKind
   pub draft : Draft

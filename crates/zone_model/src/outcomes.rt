@@ -13,7 +13,7 @@ pub enum OpFault {
     NotFound,
     /// The tag is not the record's.
     Conflict,
-    /// The operation has another form.
+    /// The record would not have its form, or the operation asks for what records of its kind can't have.
     BadRequest,
     /// The user may not do this.
     AccessDenied,

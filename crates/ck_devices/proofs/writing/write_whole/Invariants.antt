@@ -6,7 +6,7 @@ abbrev pub invariant-loop-done : goal.invariant-loop-done
 invariant-loop-done g l = record {
   within : l.done ≤ length l.bytes;
   sent : Appends (g.W.Sink.held l.fn.sink) (g.W.Sink.held l.sink) (take l.done l.bytes);
-  kept : g.W.Sink.fault_count l.sink ≡ g.W.Sink.fault_count l.fn.sink;
+  kept : (g.W.Sink.failures l.sink).count ≡ (g.W.Sink.failures l.fn.sink).count;
 }
 
 abbrev pub decreases-loop-done : goal.decreases-loop-done

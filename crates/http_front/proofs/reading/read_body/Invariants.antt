@@ -7,7 +7,7 @@ abbrev pub invariant-loop-head : goal.invariant-loop-head
 invariant-loop-head g l = record {
   reads : ReadsOn (g.S.Source.left l.fn.source) (g.S.Source.left l.source) l.fn.buffer l.buffer;
   found : IsFound l.buffer l.head;
-  kept : g.S.Source.fault_count l.source ≡ g.S.Source.fault_count l.fn.source;
+  kept : (g.S.Source.failures l.source).count ≡ (g.S.Source.failures l.fn.source).count;
 }
 
 abbrev pub decreases-loop-head : goal.decreases-loop-head

@@ -6,7 +6,7 @@ use Rattle.http_front.proofs.reading.read_head.Given as goal
 abbrev pub invariant-loop-head : goal.invariant-loop-head
 invariant-loop-head g l = record {
   reads : ReadsOn (g.S.Source.left l.fn.source) (g.S.Source.left l.source) l.fn.buffer l.buffer;
-  kept : g.S.Source.fault_count l.source ≡ g.S.Source.fault_count l.fn.source;
+  kept : (g.S.Source.failures l.source).count ≡ (g.S.Source.failures l.fn.source).count;
   scanned : IsScanned l.buffer l.scan;
   unended : IsOpen l.buffer l.scan.lines;
 }
