@@ -6,23 +6,14 @@ ghost use Rattle.record_model.specs.declared.value.Value.{Value as SeenValue, ou
 ghost use Rattle.zone_model.specs.Options.{is_none_or};
 ghost use Rattle.plain_creates.specs.PlainCreates.{gives_no_parent, gives_no_share, only_names, has_plain_references, is_plain_draft, is_plain_create};
 ghost use Rattle.zone_model.specs.References.{single_references};
-ghost use Rattle.talk_model.specs.Requests.{is_built_operation, is_built_route, is_built};
+ghost use Rattle.talk_model.specs.Requests.{is_built_route, is_built};
 
-use ck_base::{Database, Operation, Route, is_own_default};
+use ck_base::{Database, Route, is_own_default};
 use modify_ops::{Op, OpKind};
 use record_model::{Action, Draft, ParentWish, Value, Wish, elements, is_share_type};
-use wire_calls::Call;
+use wire_calls::{Call, is_built_operation};
 
-fn is_built_operation(operation: Operation) -> bool
-    ensures { result ≡ is_built_operation operation }
-{
-    match operation {
-        Operation::RecordsModify | Operation::RecordsLookup => true,
-        _ => false,
-    }
-}
-
-// Modify and lookup of the private database.
+// Operations of the private database that are built.
 pub(crate) fn is_built_route(route: Route) -> bool
     ensures { result ≡ is_built_route route }
 {

@@ -13,19 +13,20 @@ use std::alloc::Global;
 use talk_model::{End, TalkFaultKind};
 use wire_calls::{Reply, reply_status, reply_text};
 
-// Writes a reply.
+// Writes a reply. Each of its entries is dropped once its text is written.
 #[tactic(auto, using(crate::proofs::SendingLemmas::is_status))]
 pub(crate) fn send_reply<W: Sink>(
     alloc: Global,
     sink: &mut W,
     close: bool,
-    reply: &Reply,
+    reply: Reply,
 ) -> Result<(), TalkFaultKind>
-    ensures sends { Sends (W.held sink.old) (W.held sink.new) (text_of close reply.now) result }
+    ensures sends { Sends (W.held sink.old) (W.held sink.new) (text_of close reply) result }
     ensures cause { StopsAt TalkFaultKind.WriteFault (W.failures sink.old) (W.failures sink.new) result }
 {
+    let status = reply_status(&reply);
     let body = reply_text(alloc, reply)?;
-    match write_reply(alloc, sink, reply_status(reply), body.as_bytes(), close) {
+    match write_reply(alloc, sink, status, body.as_bytes(), close) {
         Ok(()) => Ok(()),
         Err(WriteFault::Failed) => Err(TalkFaultKind::WriteFault),
         Err(WriteFault::NoMemory) => Err(TalkFaultKind::NoMemory),
@@ -39,7 +40,7 @@ fn refuse<W: Sink>(alloc: Global, sink: &mut W, end: End) -> Result<End, TalkFau
     ensures end { OnOk result (result ≡ Ok end) }
     ensures cause { StopsAt TalkFaultKind.WriteFault (W.failures sink.old) (W.failures sink.new) result }
 {
-    send_reply(alloc, sink, true, &Reply::Refused(ServerError::BadRequest))?;
+    send_reply(alloc, sink, true, Reply::Refused(ServerError::BadRequest))?;
     Ok(end)
 }
 

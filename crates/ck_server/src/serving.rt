@@ -72,7 +72,7 @@ fn refuse_request<W: Sink>(
     ensures cause { StopsAt TalkFaultKind.WriteFault (W.failures sink.old) (W.failures sink.new) result }
 {
     mark_refusal(alloc, arrival, drawn, marks)?;
-    send_reply(alloc, sink, close, &Reply::Refused(error))?;
+    send_reply(alloc, sink, close, Reply::Refused(error))?;
     Ok(Served::Answered)
 }
 
@@ -97,7 +97,7 @@ fn serve_call<B: Board, W: Sink, R: Words>(
     if drawn.drawn {
         let asking = asking_of(alloc, call, arrival.moment, drawn.words.as_slice())?;
         let reply = mark_asks(alloc, board, &asking, arrival, drawn.words, marks)?;
-        match send_reply(alloc, sink, close, &reply) {
+        match send_reply(alloc, sink, close, reply) {
             Ok(()) => Ok(Served::Answered),
             Err(at) => Err(at),
         }

@@ -1,8 +1,10 @@
 -- Reading what was written.
-use Rattle.std.proofs.Common.{◌≡◌, ℕ, suc, ◌||◌, true, List, [], ◌∷◌, map, Option, None, Some, is_some, refl, sym, ap, subst, ◌∙◌}
+use Rattle.std.proofs.Common.{◌≡◌, ◌≤◌, ℕ, suc, ◌||◌, true, List, [], ◌∷◌, length, map, Option, None, Some, is_some, refl, sym, ap, subst, ◌∙◌}
 use Rattle.std.specs.Prelude.{Ok}
 use Rattle.std.specs.List.{AllByRecursion}
 use Rattle.std.specs.Result.{result_ok}
+use Rattle.std.proofs.lemmas.Bool.{le-ltb}
+use Rattle.std.proofs.lemmas.List.{length-map}
 use Rattle.ck_base.specs.Names.{IsName}
 use Rattle.ck_base.specs.declared.key.ZoneKey.{ZoneKey}
 use Rattle.field_values.proofs.ListLemmas.{elements_items}
@@ -13,10 +15,12 @@ use Rattle.zone_model.specs.declared.operations.OpKind.{OpKind}
 use Rattle.zone_model.specs.declared.operations.OpKind.TheVariants.{Create, Update, ForceUpdate, Replace, ForceReplace, Delete, ForceDelete}
 use Rattle.zone_model.specs.declared.operations.Op.{Op}
 use Rattle.zone_model.specs.Requests.{is_create}
+use Rattle.zone_model.specs.Limits.{most_items}
 use Rattle.modify_ops.specs.Forms.{deletion_of, draft_as, op_from, op_of, ops_from}
+use Rattle.modify_ops.specs.Reading.{within}
 use Rattle.modify_ops.specs.Writing.{op_data}
-use Rattle.zone_model.specs.OpForms.{bare, IsBare, IsMeantAs, IsMeantOp}
-use Rattle.modify_ops.specs.RoundTrip.{OpsReadBack}
+use Rattle.zone_model.specs.OpForms.{bare, IsBare, IsMeantAs, IsMeantOp, AreMeantOps}
+use Rattle.modify_ops.specs.RoundTrip.{OpsReadBack, RequestsReadBack}
 
 bare_reads : (name : List ℕ) (tag : Option (List ℕ)) → IsName name → deletion_of (draft_data (bare name tag)) ≡ Some (bare name tag)
 bare_reads name None is = rw (name_told name is) refl
@@ -56,3 +60,11 @@ module _ (here : ZoneKey) (caller : List ℕ) where
 
 pub ops_read_back : OpsReadBack
 ops_read_back here caller ops all = ap (ops_from here caller 0) (elements_items (map op_data ops)) ∙ each_reads here caller 0 ops all
+
+request_reads : (here : ZoneKey) (caller : List ℕ) (ops : List Op) → AreMeantOps ops → within here caller (map op_data ops) ≡ Ok ops
+request_reads here caller ops are =
+    let few : length (map op_data ops) ≤ most_items = subst (λ n. n ≤ most_items) (sym (length-map ops op_data)) are.few in
+    rw (le-ltb most_items (length (map op_data ops)) few, each_reads here caller 0 ops are.meant, are.once) refl
+
+pub requests_read_back : RequestsReadBack
+requests_read_back here caller ops are = ap (within here caller) (elements_items (map op_data ops)) ∙ request_reads here caller ops are

@@ -2,7 +2,8 @@
 use ck_base::{NoMemory, RecordName};
 use std::alloc::{AllocError, AllocFailed};
 
-/// Why JSON is no list of operations. The faults are looked for in this order.
+/// Why JSON is no list of operations. The faults are looked for in this order;
+/// memory may run out ahead of any.
 #[derive(Debug, Drop)]
 pub enum BadOps {
     /// There are so many, and more than 200.

@@ -8,8 +8,6 @@ use Rattle.serde_json.specs.Read.{read}
 use Rattle.ck_base.specs.KnownNames.{is_own_default}
 use Rattle.ck_base.specs.declared.route.Database.{Database}
 use Rattle.ck_base.specs.declared.route.Database.TheVariants.{Private, Shared, Public}
-use Rattle.ck_base.specs.declared.route.Operation.{Operation}
-use Rattle.ck_base.specs.declared.route.Operation.TheVariants.{RecordsModify, RecordsLookup}
 use Rattle.ck_base.specs.declared.route.Route.{Route}
 use Rattle.plain_creates.specs.PlainCreates.{is_plain_create}
 use Rattle.error_replies.specs.declared.errors.ServerError.{ServerError}
@@ -18,6 +16,7 @@ use Rattle.wire_calls.specs.declared.call.Call.{Call}
 use Rattle.wire_calls.specs.declared.call.Call.TheVariants.{Modify, Lookup}
 use Rattle.wire_calls.specs.declared.fault.BadCall.{BadCall}
 use Rattle.wire_calls.specs.declared.fault.BadCall.TheVariants.{NotBuilt}
+use Rattle.wire_calls.specs.Built.{is_built_operation}
 use Rattle.wire_calls.specs.Calls.{call_of}
 use Rattle.talk_model.specs.declared.wants.Sender.{Sender}
 use Rattle.talk_model.specs.declared.wants.Want.{Want}
@@ -60,12 +59,7 @@ is_private Private = true
 is_private Shared = false
 is_private Public = false
 
-abbrev pub is_built_operation : Operation → Bool
-is_built_operation RecordsModify = true
-is_built_operation RecordsLookup = true
-is_built_operation _ = false
-
--- modify and lookup of the private database
+-- operations of the private database that are built
 abbrev pub is_built_route : Route → Bool
 is_built_route route = is_private route.database && is_built_operation route.operation
 

@@ -1,10 +1,11 @@
 -- Reading the entries of replies.
-use Rattle.std.proofs.Common.{◌≡◌, ◌↔◌, IsTrue, ℕ, Bool, true, false, List, [], Option, None, Some, refl, sym, ap, subst, ◌∙◌, arith}
+use Rattle.std.proofs.Common.{◌≡◌, ◌↔◌, IsTrue, ℕ, Bool, true, false, List, [], Option, None, Some, refl, sym, ap, ap₂, subst, ◌∙◌, arith}
 use Rattle.std.specs.Prelude.{◌≢◌, codes, Result, Ok, Err, IfOk}
 use Rattle.serde_json.specs.Data.{Data, null, boolean, number, string, array, object, no_members, member}
 use Rattle.ck_base.specs.Names.{IsName}
 use Rattle.field_values.specs.Exact.{IsExact}
 use Rattle.field_values.specs.Members.{found}
+use Rattle.field_values.specs.References.{name_in}
 use Rattle.record_model.specs.declared.records.Record.{Record}
 use Rattle.record_model.specs.RecordForms.{IsStored}
 use Rattle.ck_records.specs.Replied.{IsReplyOf}
@@ -19,8 +20,9 @@ use Rattle.wire_calls.specs.declared.asked.Asked.{Asked}
 use Rattle.wire_calls.specs.declared.reply.RecordEntry.{RecordEntry}
 use Rattle.wire_calls.specs.declared.reply.RecordEntry.TheVariants.{There, Gone, Failed, Conflict as InConflict}
 use Rattle.wire_calls.specs.Asked.{answers}
-use Rattle.wire_calls.specs.Entries.{Finds, error_named, error_in, entry_name, IsGone, IsFailed, IsServer, IsConflict, IsErrorOf, IsEntryOf, IsAnswer}
+use Rattle.wire_calls.specs.Found.{Finds, error_named, error_in, entry_name, IsGone, IsFailed, IsServer, IsConflict, IsErrorOf, IsEntryOf, IsAnswer, IsPlain}
 use Rattle.wire_calls.specs.Replies.{gone_data, failed_data, conflict_data}
+use Rattle.wire_calls.proofs.ThingLemmas.{just, other, error_told, first_name}
 
 -- ---- what is found
 
@@ -32,94 +34,25 @@ pub some_is : {A : Type 0} (has : A → Type 0) (o : Option A) (x : A) → Finds
 some_is has None x finds e = absurd (cc e)
 some_is has (Some y) x finds e = let same : y ≡ x = cc e in subst has same finds
 
--- ---- what is written again
+-- ---- names of records
 
--- the JSON is just what is written for a value, or is written for none
-module _ {A : Type 0} (write : A → Data) (Is : A → Type 0) (exact : (x : A) → Is x → IsExact (write x)) (d : Data) (x : A) (w : Data) (writes : w ≡ write x) (same : Bool) (tells : IsExact w → (IsTrue same ↔ (d ≡ w))) where
-  pub just : Is x → same ≡ true → write x ≡ d
-  just is matches = sym ((tells (subst IsExact (sym writes) (exact x is))).0 matches ∙ writes)
+pub record_name_told : (name : List ℕ) → IsName name → name_in (Some (string name)) ≡ Some name
+record_name_told name is = rw (name_told name is) refl
 
-  pub other : same ≡ false → ((y : A) → Is y → write y ≡ d → y ≡ x) → (y : A) → Is y → write y ≡ d → ⊥
-  other differs one y is e =
-      let again : write y ≡ w = ap write (one y is e) ∙ sym writes in
-      let found : same ≡ true = (tells (subst IsExact again (exact y is))).1 (sym e ∙ again) in
-      cc (found, differs)
-
--- ---- a record that is gone
-
-gone_exact : (name : List ℕ) → IsName name → IsExact (gone_data name)
-gone_exact name is = record { whole = refl; shallow = omega arith }
+pub text_plain : (text : List ℕ) → IsPlain (string text)
+text_plain text = record { there = refl; whole = refl; shallow = omega arith }
 
 gone_named : (name : List ℕ) → IsName name → entry_name (gone_data name) ≡ Some name
 gone_named name is = rw (name_told name is) refl
 
-pub none_gone : (d : Data) → entry_name d ≡ None → (name : List ℕ) → IsGone d name → ⊥
-none_gone d none name is = cc (ap entry_name is.1, gone_named name is.0, none)
-
-module _ (d : Data) (name : List ℕ) (w : Data) (writes : w ≡ gone_data name) (same : Bool) (tells : IsExact w → (IsTrue same ↔ (d ≡ w))) where
-  pub just_gone : IsName name → same ≡ true → IsGone d name
-  just_gone is matches = (is, just gone_data IsName gone_exact d name w writes same tells is matches)
-
-  pub other_gone : entry_name d ≡ Some name → same ≡ false → (other : List ℕ) → IsGone d other → ⊥
-  other_gone read differs y is = other gone_data IsName gone_exact d name w writes same tells differs (λ y is e. cc (ap entry_name e, gone_named y is, read)) y is.0 is.1
-
--- ---- errors
-
-pub error_told : (e : ServerError) → error_named (code_of e) ≡ Some e
-error_told AccessDenied = refl
-error_told AtomicError = refl
-error_told AuthenticationFailed = refl
-error_told AuthenticationRequired = refl
-error_told BadRequest = refl
-error_told Conflict = refl
-error_told Exists = refl
-error_told NotFound = refl
-error_told TryAgainLater = refl
-error_told ValidatingReferenceError = refl
-error_told ZoneNotFound = refl
-
 abbrev AnError : Type 0
 AnError = ServerError × List ℕ
 
-abbrev error_written : AnError → Data
-error_written x = failed_data x.0 x.1
-
-abbrev IsAnError : AnError → Type 0
-IsAnError x = IsName x.1 × (x.0 ≢ Conflict)
-
-failed_exact : (x : AnError) → IsAnError x → IsExact (error_written x)
-failed_exact x is = record { whole = refl; shallow = omega arith }
-
-failed_error : (x : AnError) → error_in (error_written x) ≡ Some x.0
+failed_error : (x : AnError) → error_in (failed_data x.0 x.1) ≡ Some x.0
 failed_error x = error_told x.0
 
-failed_named : (x : AnError) → IsName x.1 → entry_name (error_written x) ≡ Some x.1
+failed_named : (x : AnError) → IsName x.1 → entry_name (failed_data x.0 x.1) ≡ Some x.1
 failed_named x is = rw (name_told x.1 is) refl
-
-pub none_failed : (d : Data) → error_in d ≡ None → (x : AnError) → IsFailed d x → ⊥
-none_failed d none x is = cc (ap error_in is.2, failed_error x, none)
-
-pub none_in_conflict : (d : Data) (error : ServerError) → error_in d ≡ Some error → error ≡ Conflict → (x : AnError) → IsFailed d x → ⊥
-none_in_conflict d error read conflict x is =
-    let told : ◌≡◌ {A = ServerError} x.0 error = cc (ap error_in is.2, failed_error x, read) in
-    is.1 (told ∙ conflict)
-
-pub none_failed_named : (d : Data) → entry_name d ≡ None → (x : AnError) → IsFailed d x → ⊥
-none_failed_named d none x is = cc (ap entry_name is.2, failed_named x is.0, none)
-
-one_failed : (d : Data) (error : ServerError) (name : List ℕ) → error_in d ≡ Some error → entry_name d ≡ Some name → (y : AnError) → IsAnError y → error_written y ≡ d → y ≡ (error, name)
-one_failed d error name read_error read_name (error_y, name_y) is e =
-    let errors : ◌≡◌ {A = ServerError} error_y error = cc (ap error_in e, failed_error (error_y, name_y), read_error) in
-    let names : ◌≡◌ {A = List ℕ} name_y name = cc (ap entry_name e, failed_named (error_y, name_y) is.0, read_name) in
-    rw (errors, names) refl
-
-module _ (d : Data) (error : ServerError) (name : List ℕ) (w : Data) (writes : w ≡ failed_data error name) (same : Bool) (tells : IsExact w → (IsTrue same ↔ (d ≡ w))) where
-  pub just_failed : IsName name → error ≢ Conflict → same ≡ true → IsFailed d (error, name)
-  just_failed is apart matches = (is, apart, just error_written IsAnError failed_exact d (error, name) w writes same tells (is, apart) matches)
-
-  pub other_failed : error_in d ≡ Some error → entry_name d ≡ Some name → same ≡ false → (x : AnError) → IsFailed d x → ⊥
-  other_failed read_error read_name differs x is =
-      other error_written IsAnError failed_exact d (error, name) w writes same tells differs (one_failed d error name read_error read_name) x (is.0, is.1) is.2
 
 -- ---- conflicts
 
@@ -224,15 +157,6 @@ module _ (owner : List ℕ) (as_text : Bool) where
 
   -- ---- no JSON is that of two entries
 
-  abbrev first_name : Data → List ℕ
-  first_name null = []
-  first_name (boolean b) = []
-  first_name (number n) = []
-  first_name (string s) = []
-  first_name (array ds) = []
-  first_name (object no_members) = []
-  first_name (object (member k d ms)) = k
-
   pub one_entry : (d : Data) (e f : RecordEntry) → IsEntryOf owner as_text d e → IsEntryOf owner as_text d f → e ≡ f
   one_entry d (There r) (There s) one two =
       ap There (records_read_back owner as_text d r s (record { stored = one.form; written = one.written }) (record { stored = two.form; written = two.written }))
@@ -248,7 +172,9 @@ module _ (owner : List ℕ) (as_text : Bool) where
   one_entry d (Failed error n) (Failed fault m) one two =
       let read_error : error_in d ≡ Some fault = ap error_in (sym two.written) ∙ failed_error (fault, m) in
       let read_name : entry_name d ≡ Some m = ap entry_name (sym two.written) ∙ failed_named (fault, m) two.form.0 in
-      ap (λ (x : AnError). Failed x.0 x.1) (one_failed d fault m read_error read_name (error, n) one.form one.written)
+      let errors : ◌≡◌ {A = ServerError} error fault = cc (ap error_in one.written, failed_error (error, n), read_error) in
+      let names : ◌≡◌ {A = List ℕ} n m = cc (ap entry_name one.written, failed_named (error, n) one.form.0, read_name) in
+      ap₂ Failed errors names
   one_entry d (Failed error n) (InConflict m server) one two =
       let told : ◌≡◌ {A = ServerError} error Conflict = cc (failed_error (error, n), ap error_in (one.written ∙ sym two.written)) in
       absurd (one.form.1 told)
@@ -264,13 +190,13 @@ module _ (owner : List ℕ) (as_text : Bool) where
 
   -- ---- what is asked for
 
+  pub an_answer : (a : Asked) (d : Data) (e : RecordEntry) → IsEntryOf owner as_text d e → answers a e ≡ true → IsAnswer owner as_text a d e
+  an_answer a d e is asked = record { asked = record { form = is.form; asked = asked }; written = is.written }
+
   pub no_answer : (a : Asked) (d : Data) → ((e : RecordEntry) → IsEntryOf owner as_text d e → ⊥) → (e : RecordEntry) → IsAnswer owner as_text a d e → ⊥
-  no_answer a d none e is = none e is.entry
+  no_answer a d none e is = none e (record { form = is.asked.form; written = is.written })
 
   pub another : (a : Asked) (d : Data) (e : RecordEntry) → IsEntryOf owner as_text d e → answers a e ≡ false → (f : RecordEntry) → IsAnswer owner as_text a d f → ⊥
   another a d e is not f other =
-      let same : e ≡ f = one_entry d e f is other.entry in
-      cc (not, ap (answers a) same, other.asked)
-
-  pub one_answer : (a : Asked) (d : Data) (e f : RecordEntry) → IsAnswer owner as_text a d e → IsAnswer owner as_text a d f → e ≡ f
-  one_answer a d e f one two = one_entry d e f one.entry two.entry
+      let same : e ≡ f = one_entry d e f is (record { form = other.asked.form; written = other.written }) in
+      cc (not, ap (answers a) same, other.asked.asked)

@@ -1,7 +1,11 @@
 -- reading what was written for calls
 pub mod ReadsBackLemmas
+-- entries that tell of a thing by its name alone
+pub mod ThingLemmas
 -- reading the entries of replies
 pub mod EntryLemmas
+-- lists of replies, of entries of any kind
+pub mod ReplyListLemmas
 -- reading replies
 pub mod ReplyLemmas
 -- what is read of the text of a list
@@ -12,3 +16,7 @@ pub mod ReplyTextLemmas
 pub mod MeansLemmas
 -- the text of a call tells it exactly
 pub mod CallTextLemmas
+-- the entries of lists of zones
+pub mod ZoneEntryLemmas
+-- what is to be done with subscriptions
+pub mod SubscriptionListLemmas

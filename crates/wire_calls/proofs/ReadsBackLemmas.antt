@@ -25,13 +25,16 @@ use Rattle.wire_calls.specs.declared.call.ModifyCall.{ModifyCall}
 use Rattle.wire_calls.specs.declared.call.LookupCall.{LookupCall}
 use Rattle.wire_calls.specs.declared.call.Call.TheVariants.{Modify, Lookup}
 use Rattle.wire_calls.specs.declared.lists.Listed.TheVariants.{FieldNames, RecordsByName}
+use Rattle.wire_calls.specs.declared.limits.CallList.{CallList}
+use Rattle.wire_calls.specs.declared.limits.CallList.TheVariants.{DesiredKeys as KeyList, Records as RecordList}
 use Rattle.wire_calls.specs.declared.fault.CallKey.{CallKey}
 use Rattle.wire_calls.specs.declared.fault.CallKey.TheVariants.{Atomic, NumbersAsStrings, DesiredKeys, Records}
 use Rattle.wire_calls.specs.declared.fault.BadCall.{BadCall}
 use Rattle.wire_calls.specs.declared.fault.BadCall.TheVariants.{BadKey}
 use Rattle.field_values.specs.ZoneIds.{zone_in, zone_data, IsMeantZone}
 use Rattle.wire_calls.specs.Zones.{zone_at}
-use Rattle.wire_calls.specs.Members.{flag_at, limited, limited_if}
+use Rattle.wire_calls.specs.Members.{flag_at}
+use Rattle.wire_calls.specs.Limits.{most_of, limited, limited_if}
 use Rattle.wire_calls.specs.Listings.{listed_name, keys_at, records_at}
 use Rattle.wire_calls.specs.Calls.{ops_at, checked, modify_of, lookup_of}
 use Rattle.wire_calls.specs.CallWriting.{flag_data, zone_given, names_data, records_data, modify_data, lookup_data}
@@ -45,7 +48,7 @@ flag_reads key true false = refl
 flag_reads key false true = refl
 flag_reads key false false = refl
 
-abbrev key_from : List ℕ → List ℕ → ZoneKey
+abbrev pub key_from : List ℕ → List ℕ → ZoneKey
 key_from owner zone = record { owner = owner; zone = zone }
 
 default_reads : (caller : List ℕ) (key : ZoneKey) → is_own_default caller key ≡ true → own_default caller ≡ key
@@ -55,7 +58,7 @@ default_reads caller key is =
     let zone : key.zone ≡ default_zone = (bytes_eq-Decides key.zone default_zone).0 parts.1 in
     ap₂ key_from (sym owner) (sym zone)
 
-key_reads : (caller : List ℕ) (key : ZoneKey) → IsMeantZone caller key → zone_in caller (zone_data key) ≡ Some key
+pub key_reads : (caller : List ℕ) (key : ZoneKey) → IsMeantZone caller key → zone_in caller (zone_data key) ≡ Some key
 key_reads caller key is = rw (name_told key.owner is.owner.0, name_told key.zone is.zone, is.owner.1) refl
 
 zone_reads : (caller : List ℕ) (key : ZoneKey) → IsMeantZone caller key → zone_at caller (there (zone_given caller key)) ≡ Ok key
@@ -84,12 +87,12 @@ records_read names all = rw (elements_items (map named_data names), objects_read
 
 -- ---- the limits
 
-within : {A B : Type 0} (xs : List A) (after : Result B BadCall) → length xs ≤ most_items → limited most_items xs after ≡ after
-within xs after few = rw (le-ltb most_items (length xs) few) refl
+within : {A B : Type 0} (list : CallList) (xs : List A) (after : Result B BadCall) → length xs ≤ most_of list → limited list xs after ≡ after
+within list xs after few = rw (le-ltb (most_of list) (length xs) few) refl
 
-within_if : {B : Type 0} (o : Option (List (List ℕ))) (after : Result B BadCall) → IfSome o AreNames → limited_if most_items o after ≡ after
+within_if : {B : Type 0} (o : Option (List (List ℕ))) (after : Result B BadCall) → IfSome o AreNames → limited_if KeyList o after ≡ after
 within_if None after is = refl
-within_if (Some names) after is = within names after is.1
+within_if (Some names) after is = within KeyList names after is.1
 
 checks : (ops : List Op) → length ops ≤ most_items → named_again ops ≡ None → checked ops ≡ Ok ops
 checks ops few once = rw (le-ltb most_items (length ops) few, once) refl
@@ -130,7 +133,7 @@ lookup_reads c is =
     ap (flag_at NumbersAsStrings false) (there_is (codes "numbersAsStrings")) ∙ flag_reads NumbersAsStrings false c.numbers_as_strings in
     let keys : keys_at (found (codes "desiredKeys") (lookup_data c)) ≡ Ok c.desired_keys = ap keys_at (there_is (codes "desiredKeys")) ∙ keys_read c.desired_keys is.keys in
     let names : records_at (found (codes "records") (lookup_data c)) ≡ Ok c.names = ap records_at (there_is (codes "records")) ∙ records_read c.names is.names.0 in
-    rw (zone, numbers, keys, names) (within_if c.desired_keys _ is.keys ∙ within c.names _ is.names.1)
+    rw (zone, numbers, keys, names) (within_if c.desired_keys _ is.keys ∙ within RecordList c.names _ is.names.1)
 
 pub calls_read_back : CallsReadBack
 calls_read_back (Modify c) is = rw (modify_reads c is) refl

@@ -7,13 +7,12 @@ use Rattle.serde_json.specs.Read.{read}
 use Rattle.ck_base.specs.declared.key.ZoneKey.{ZoneKey}
 use Rattle.ck_base.specs.declared.route.Database.{Database}
 use Rattle.ck_base.specs.declared.route.Operation.{Operation}
-use Rattle.ck_base.specs.declared.route.Operation.TheVariants.{RecordsModify, RecordsLookup, ZonesList, SubscriptionsList}
+use Rattle.ck_base.specs.declared.route.Operation.TheVariants.{ZonesList, SubscriptionsList}
 use Rattle.ck_base.specs.declared.route.Route.{Route}
 use Rattle.field_values.specs.Members.{found}
 use Rattle.field_values.specs.Results.{result_map}
 use Rattle.ck_records.specs.Sequence.{◌>>=◌}
 use Rattle.zone_model.specs.declared.operations.Op.{Op}
-use Rattle.zone_model.specs.Limits.{most_items}
 use Rattle.zone_model.specs.GivenNames.{named_again}
 use Rattle.modify_ops.specs.Reading.{list_of}
 use Rattle.wire_calls.specs.declared.call.ModifyCall.{ModifyCall}
@@ -23,8 +22,13 @@ use Rattle.wire_calls.specs.declared.call.Call.TheVariants.{Modify, Lookup}
 use Rattle.wire_calls.specs.declared.fault.CallKey.TheVariants.{Atomic, NumbersAsStrings, Operations}
 use Rattle.wire_calls.specs.declared.fault.BadCall.{BadCall}
 use Rattle.wire_calls.specs.declared.fault.BadCall.TheVariants.{NotJson, BadKey, Twice, NotBuilt}
+use Rattle.wire_calls.specs.declared.built.CallKind.{CallKind}
+use Rattle.wire_calls.specs.declared.built.CallKind.TheVariants.{ModifyRecords, LookupRecords}
+use Rattle.wire_calls.specs.Built.{kind_of, is_built_operation}
 use Rattle.wire_calls.specs.Zones.{zone_at}
-use Rattle.wire_calls.specs.Members.{flag_at, limited, limited_if}
+use Rattle.wire_calls.specs.declared.limits.CallList.TheVariants.{Operations as OperationList, DesiredKeys as KeyList, Records as RecordList}
+use Rattle.wire_calls.specs.Members.{flag_at}
+use Rattle.wire_calls.specs.Limits.{limited, limited_if}
 use Rattle.wire_calls.specs.Listings.{keys_at, records_at}
 
 -- a list of operations, each of which is one
@@ -39,7 +43,7 @@ unless_again ops (Some name) = Err (Twice name)
 
 -- at most 200, of which none names a record or a root again
 abbrev pub checked : List Op → Result (List Op) BadCall
-checked ops = limited most_items ops (unless_again ops (named_again ops))
+checked ops = limited OperationList ops (unless_again ops (named_again ops))
 
 module _ (database : Database) (caller : List ℕ) where
   abbrev pub modify_of : Data → Result ModifyCall BadCall
@@ -57,20 +61,25 @@ module _ (database : Database) (caller : List ℕ) where
     numbers ← flag_at NumbersAsStrings false (found (codes "numbersAsStrings") d)
     keys ← keys_at (found (codes "desiredKeys") d)
     names ← records_at (found (codes "records") d)
-    limited_if most_items keys (limited most_items names
+    limited_if KeyList keys (limited RecordList names
         (Ok (record { caller = caller; database = database; zone = zone; numbers_as_strings = numbers; desired_keys = keys; names = names })))
+
+  -- the call of a kind that an object is
+  abbrev pub call_as : CallKind → Data → Result Call BadCall
+  call_as ModifyRecords d = result_map Modify (modify_of d)
+  call_as LookupRecords d = result_map Lookup (lookup_of d)
+
+  abbrev pub call_by : Option CallKind → Data → Result Call BadCall
+  call_by None d = Err NotBuilt
+  call_by (Some kind) d = call_as kind d
+
+  -- the call that an object is
+  abbrev pub by_operation : Operation → Data → Result Call BadCall
+  by_operation operation d = call_by (kind_of operation) d
 
 -- what is wrong with a body that is no object
 abbrev pub no_call : Operation → BadCall
-no_call RecordsModify = NotJson
-no_call RecordsLookup = NotJson
-no_call _ = NotBuilt
-
--- the call that an object is
-abbrev pub by_operation : Database → List ℕ → Operation → Data → Result Call BadCall
-by_operation database caller RecordsModify d = result_map Modify (modify_of database caller d)
-by_operation database caller RecordsLookup d = result_map Lookup (lookup_of database caller d)
-by_operation database caller _ d = Err NotBuilt
+no_call operation = if is_built_operation operation then NotJson else NotBuilt
 
 -- the object, if the JSON of a body is one
 abbrev pub object_in : Option Data → Option Data

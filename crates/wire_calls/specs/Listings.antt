@@ -1,5 +1,5 @@
 -- Lists in calls: of names, of texts, of zones, and of what is to be done with zones.
-use Rattle.std.specs.Prelude.{ℕ, if◌then◌else◌, List, bytes_eq, codes, Option, None, Some, option_and_then, option_map, ok_or, Result, Ok, Err}
+use Rattle.std.specs.Prelude.{ℕ, if◌then◌else◌, List, bytes_eq, codes, Option, None, Some, IfSome, IsUtf8, option_and_then, option_map, ok_or, Result, Ok, Err}
 use Rattle.std.specs.Result.{result_ok}
 use Rattle.serde_json.specs.Data.{Data, Items}
 use Rattle.serde_json.specs.Find.{as_array, as_str}
@@ -18,7 +18,7 @@ use Rattle.wire_calls.specs.declared.fault.CallKey.{CallKey}
 use Rattle.wire_calls.specs.declared.fault.CallKey.TheVariants.{Operations, DesiredKeys, Records, ShortGuids, Zones, Subscriptions, SyncToken}
 use Rattle.wire_calls.specs.declared.fault.BadCall.{BadCall}
 use Rattle.wire_calls.specs.declared.fault.BadCall.TheVariants.{BadKey}
-use Rattle.wire_calls.specs.Members.{text_at, limit_at}
+use Rattle.wire_calls.specs.Members.{text_at, limit_at, IsPageLimit}
 
 -- what the elements of a list are, each of which has to be one; what is no list is wrong too
 abbrev pub each_in : {A : Type 0} → CallKey → (Data → Option A) → Option Items → Result (List A) BadCall
@@ -115,5 +115,8 @@ abbrev pub IsMeantZoneOp : List ℕ → ZoneOp → Type 0
 IsMeantZoneOp caller (Make key) = IsMeantZone caller key
 IsMeantZoneOp caller (Remove key) = IsMeantZone caller key
 
-abbrev pub IsMeantChanged : List ℕ → ChangedZone → Type 0
-IsMeantChanged caller c = IsMeantZone caller c.zone
+-- the token is a text, and the limit one of a page
+pub record IsMeantChanged (caller : List ℕ) (c : ChangedZone) : Type 0 where
+  pub zone : IsMeantZone caller c.zone
+  pub token : IfSome c.sync_token IsUtf8
+  pub limit : IfSome c.limit IsPageLimit

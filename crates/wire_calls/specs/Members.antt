@@ -1,5 +1,5 @@
--- Members of calls that are truth values, texts or whole numbers, and how long their lists may be.
-use Rattle.std.specs.Prelude.{ℕ, nat_lt, min, if◌then◌else◌, Bool, List, length, Option, None, Some, option_and_then, ok_or, Result, Ok, Err}
+-- Members of calls that are truth values, texts or whole numbers.
+use Rattle.std.specs.Prelude.{◌<◌, ◌≤◌, ℕ, nat_lt, min, if◌then◌else◌, Bool, List, Option, None, Some, option_and_then, ok_or, Result, Ok, Err}
 use Rattle.serde_json.specs.Data.{Data}
 use Rattle.serde_json.specs.Find.{as_bool, as_str, as_number, as_u64}
 use Rattle.field_values.specs.Results.{result_map, result_and_then}
@@ -7,7 +7,7 @@ use Rattle.zone_model.specs.Limits.{most_page_entries}
 use Rattle.wire_calls.specs.declared.fault.CallKey.{CallKey}
 use Rattle.wire_calls.specs.declared.fault.CallKey.TheVariants.{ResultsLimit}
 use Rattle.wire_calls.specs.declared.fault.BadCall.{BadCall}
-use Rattle.wire_calls.specs.declared.fault.BadCall.TheVariants.{BadKey, TooMany}
+use Rattle.wire_calls.specs.declared.fault.BadCall.TheVariants.{BadKey}
 
 -- a truth value, or the default
 abbrev pub flag_at : CallKey → Bool → Option Data → Result Bool BadCall
@@ -29,14 +29,9 @@ abbrev pub limited_to_page : Option ℕ → Result (Option ℕ) BadCall
 limited_to_page None = Ok None
 limited_to_page (Some n) = if nat_lt 0 n then Ok (Some (min n most_page_entries)) else Err (BadKey ResultsLimit)
 
+-- a limit that is read is from 1 to what a page may have
+abbrev pub IsPageLimit : ℕ → Type 0
+IsPageLimit n = (0 < n) × (n ≤ most_page_entries)
+
 abbrev pub limit_at : Option Data → Result (Option ℕ) BadCall
 limit_at o = result_and_then limited_to_page (count_at ResultsLimit o)
-
--- what follows, unless a list is longer than its limit
-abbrev pub limited : {A B : Type 0} → ℕ → List A → Result B BadCall → Result B BadCall
-limited most xs after = if nat_lt most (length xs) then Err (TooMany (length xs)) else after
-
--- the same of a list that may be absent
-abbrev pub limited_if : {A B : Type 0} → ℕ → Option (List A) → Result B BadCall → Result B BadCall
-limited_if most None after = after
-limited_if most (Some xs) after = limited most xs after

@@ -1,12 +1,14 @@
 -- The JSON of replies, and their status.
-use Rattle.std.specs.Prelude.{ℕ, Bool, true, List, map, codes}
-use Rattle.serde_json.specs.Data.{Data, boolean, string, object, no_members, member}
+use Rattle.std.specs.Prelude.{ℕ, Bool, List, map, codes}
+use Rattle.serde_json.specs.Data.{Data, string, object, no_members, member}
 use Rattle.ck_records.specs.Writing.{record_data}
 use Rattle.error_replies.specs.declared.errors.ServerError.{ServerError}
 use Rattle.error_replies.specs.declared.errors.ServerError.TheVariants.{Conflict}
 use Rattle.error_replies.specs.Errors.{code_of, reason_of, status_of}
 use Rattle.error_replies.specs.Bodies.{error_data}
 use Rattle.wire_calls.specs.Lists.{list_data}
+use Rattle.wire_calls.specs.Things.{gone_of, failed_of}
+use Rattle.wire_calls.specs.declared.thing.Thing.TheVariants.{Record as OfRecord}
 use Rattle.wire_calls.specs.declared.reply.RecordEntry.{RecordEntry}
 use Rattle.wire_calls.specs.declared.reply.RecordEntry.TheVariants.{There, Gone, Failed, Conflict as InConflict}
 use Rattle.wire_calls.specs.declared.reply.RecordsReply.{RecordsReply}
@@ -14,13 +16,10 @@ use Rattle.wire_calls.specs.declared.reply.Reply.{Reply}
 use Rattle.wire_calls.specs.declared.reply.Reply.TheVariants.{Modify, Lookup, Refused}
 
 abbrev pub gone_data : List ℕ → Data
-gone_data name = object (member (codes "deleted") (boolean true) (member (codes "recordName") (string name) no_members))
+gone_data name = gone_of OfRecord (string name)
 
 abbrev pub failed_data : ServerError → List ℕ → Data
-failed_data error name =
-    object (member (codes "reason") (string (reason_of error))
-    (member (codes "recordName") (string name)
-    (member (codes "serverErrorCode") (string (code_of error)) no_members)))
+failed_data error name = failed_of OfRecord error (string name)
 
 -- with the record that stands in the way
 abbrev pub conflict_data : List ℕ → Data → Data

@@ -1,57 +1,20 @@
 // Reading the entries of replies. Each is read loosely, written again, and compared.
-ghost use Rattle.std.specs.Prelude.{◌≡◌, true, IfOk, IfSome};
+ghost use Rattle.std.specs.Prelude.{◌≡◌, IfOk};
 ghost use Rattle.serde_json.specs.View.{view};
-ghost use Rattle.ck_base.specs.Names.{IsName};
 ghost use Rattle.ck_records.specs.Replied.{IsReplyOf};
 ghost use Rattle.wire_calls.specs.Asked.{has_name, answers};
-ghost use Rattle.wire_calls.specs.Entries.{Finds, error_named, error_in, entry_name, IsGone, IsFailed, IsServer, IsConflict, IsErrorOf, IsEntryOf, IsAnswer};
+ghost use Rattle.wire_calls.specs.Found.{Finds, IsServer, IsConflict, IsErrorOf, IsEntryOf, IsAnswer};
 
 use crate::RecordEntry;
 use crate::asked::Asked;
-use crate::reply_write::{conflict_json, failed_json, gone_json};
+use crate::reply_write::conflict_json;
+use crate::thing::Thing;
+use crate::thing_read::{entry_name, read_failed, read_gone};
 use ck_base::{NoMemory, RecordName, ZoneKey};
 use ck_records::{Record, ReplyRecordFault, read_reply_record};
-use error_replies::{ServerError, code_of};
-use field_values::{member, name_in, same_json};
+use field_values::{member, same_json};
 use serde_json::Value as Json;
 use std::alloc::Global;
-
-const ERRORS: [ServerError; 11] = [
-    ServerError::AccessDenied,
-    ServerError::AtomicError,
-    ServerError::AuthenticationFailed,
-    ServerError::AuthenticationRequired,
-    ServerError::BadRequest,
-    ServerError::Conflict,
-    ServerError::Exists,
-    ServerError::NotFound,
-    ServerError::TryAgainLater,
-    ServerError::ValidatingReferenceError,
-    ServerError::ZoneNotFound,
-];
-
-fn error_named(code: &str) -> Option<ServerError>
-    ensures { result ≡ error_named code.now }
-{
-    ERRORS.iter().copied().find(|error| code_of(*error) == code)
-}
-
-/// The error whose code an object has.
-pub(crate) fn error_in(json: &Json) -> Option<ServerError>
-    ensures { result ≡ error_in (view json.now) }
-{
-    match member(json, "serverErrorCode").and_then(Json::as_str) {
-        Some(code) => error_named(code),
-        None => None,
-    }
-}
-
-fn entry_name(alloc: Global, json: &Json) -> Result<Option<RecordName>, NoMemory>
-    ensures name { IfOk result (λ name. name ≡ entry_name (view json.now)) }
-    ensures meant { IfOk result (λ name. IfSome name IsName) }
-{
-    name_in(alloc, member(json, "recordName"))
-}
 
 fn read_there(
     alloc: Global,
@@ -65,40 +28,6 @@ fn read_there(
         Ok(record) => Ok(Some(record)),
         Err(ReplyRecordFault::NotARecord) => Ok(None),
         Err(ReplyRecordFault::NoMemory) => Err(NoMemory),
-    }
-}
-
-fn read_gone(alloc: Global, json: &Json) -> Result<Option<RecordName>, NoMemory>
-    ensures { IfOk result (Finds (IsGone (view json.now))) }
-{
-    let Some(name) = entry_name(alloc, json)? else {
-        return Ok(None);
-    };
-    let written = gone_json(alloc, &name)?;
-    if same_json(alloc, json, &written)? {
-        Ok(Some(name))
-    } else {
-        Ok(None)
-    }
-}
-
-fn read_failed(alloc: Global, json: &Json) -> Result<Option<(ServerError, RecordName)>, NoMemory>
-    ensures { IfOk result (Finds (IsFailed (view json.now))) }
-{
-    let Some(error) = error_in(json) else {
-        return Ok(None);
-    };
-    if error == ServerError::Conflict {
-        return Ok(None);
-    }
-    let Some(name) = entry_name(alloc, json)? else {
-        return Ok(None);
-    };
-    let written = failed_json(alloc, error, &name)?;
-    if same_json(alloc, json, &written)? {
-        Ok(Some((error, name)))
-    } else {
-        Ok(None)
     }
 }
 
@@ -125,7 +54,7 @@ fn read_conflict(
     ensures { IfOk result (Finds
         (IsConflict here.now.owner numbers_as_strings (view json.now))) }
 {
-    let Some(name) = entry_name(alloc, json)? else {
+    let Some(name) = entry_name(alloc, &Thing::Record, json)? else {
         return Ok(None);
     };
     let Some(server) = read_server(alloc, json, here, numbers_as_strings)? else {
@@ -148,7 +77,7 @@ fn read_error(
     ensures { IfOk result (Finds
         (IsErrorOf here.now.owner numbers_as_strings (view json.now))) }
 {
-    if let Some((error, name)) = read_failed(alloc, json)? {
+    if let Some((error, name)) = read_failed(alloc, &Thing::Record, json)? {
         return Ok(Some(RecordEntry::Failed { error, name }));
     }
     match read_conflict(alloc, json, here, numbers_as_strings)? {
@@ -170,7 +99,7 @@ fn read_form(
     if let Some(record) = read_there(alloc, json, here, numbers_as_strings)? {
         return Ok(Some(RecordEntry::There(record)));
     }
-    if let Some(name) = read_gone(alloc, json)? {
+    if let Some(name) = read_gone(alloc, &Thing::Record, json)? {
         return Ok(Some(RecordEntry::Gone(name)));
     }
     read_error(alloc, json, here, numbers_as_strings)

@@ -2,25 +2,26 @@
 use ck_base::{NoMemory, RecordName};
 use std::alloc::{AllocError, AllocFailed};
 
-/// A member of the body of a call, in the order in which those of each call are looked at.
+/// A member of the body of a call. Those of each call are looked at in this order.
 #[derive(Clone, Copy, Debug, PartialEq, Eq)]
 pub enum CallKey {
     ZoneId,
     Atomic,
     NumbersAsStrings,
-    Operations,
     DesiredKeys,
-    Records,
-    ShortGuids,
-    Zones,
-    Subscriptions,
     SyncToken,
     SubscriptionId,
     Number,
     ResultsLimit,
+    Operations,
+    Records,
+    ShortGuids,
+    Zones,
+    Subscriptions,
 }
 
-/// Why a body means no call. The faults are looked for in this order.
+/// Why a body means no call. The faults are looked for in this order;
+/// memory may run out ahead of any.
 #[derive(Debug, Drop)]
 pub enum BadCall {
     /// The operation of the route is not built yet.

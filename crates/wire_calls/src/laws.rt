@@ -3,6 +3,7 @@
 ghost use Rattle.wire_calls.specs.CallTexts.{CallsAreExact};
 ghost use Rattle.wire_calls.specs.Meant.{CallsReadBack};
 ghost use Rattle.wire_calls.specs.RepliesTo.{RepliesAreExact, RepliesAreOne};
+ghost use Rattle.wire_calls.specs.ZoneEntries.{ZoneListsAreExact, ZoneListsAreOne};
 
 /// Reading what was written for a call gives the call back, for each that some body means.
 pub fn calls_read_back()
@@ -24,4 +25,15 @@ pub fn replies_are_one()
 /// text tells it exactly.
 pub fn replies_are_exact()
     ensures { RepliesAreExact }
+{}
+
+/// No JSON is that of two lists of zones.
+pub fn zone_lists_are_one()
+    ensures { ZoneListsAreOne }
+{}
+
+/// What is written for a list of zones has no float and nests no deeper than what is read: its text
+/// tells it exactly.
+pub fn zone_lists_are_exact()
+    ensures { ZoneListsAreExact }
 {}

@@ -1,7 +1,7 @@
-// The text of lists in replies. The JSON of an entry is made when it is written, and dropped behind it.
-ghost use Rattle.std.specs.Prelude.{◌≡◌, ◌<◌, ◌++◌, List, false, IfOk, OnOk, get_or, length, string_bytes};
+// The text of lists in replies. The JSON of an entry is made when it is written; both are dropped behind it.
+ghost use Rattle.std.specs.Prelude.{◌≡◌, ◌<◌, ◌++◌, ◌∷◌, List, false, IfOk, OnOk, length, string_bytes};
 ghost use Rattle.std.specs.List.{AllByRecursion};
-ghost use Rattle.serde_json.specs.Data.{Data, null, array};
+ghost use Rattle.serde_json.specs.Data.{Data, array};
 ghost use Rattle.serde_json.specs.View.{view, items_of};
 ghost use Rattle.serde_json.specs.Written.{has_float, comma_if, compact_text};
 ghost use Rattle.wire_calls.specs.Lists.{list_data, IsRead};
@@ -18,10 +18,10 @@ pub(crate) trait Entries {
     fn count(&self) -> usize
         ensures { result ≡ length (told self.now) };
 
-    /// The JSON of the entry at a place.
-    fn entry_json(&self, alloc: Global, place: usize) -> Result<Json, NoMemory>
-        requires { place < length (told self.now) }
-        ensures json { IfOk result (λ json. view json ≡ get_or (told self.now) place null) }
+    /// Takes the first entry out of the list, and makes its JSON.
+    fn take_json(&mut self, alloc: Global) -> Result<Json, NoMemory>
+        requires { 0 < length (told self.old) }
+        ensures json { IfOk result (λ json. told self.old ≡ view json ∷ told self.new) }
         ensures whole { IfOk result (λ json. has_float (view json) ≡ false) };
 }
 
@@ -41,25 +41,29 @@ fn push_json(alloc: Global, text: &mut String, later: bool, json: Json) -> Resul
 }
 
 // Adds a list to a text.
-fn push_list<L: Entries>(alloc: Global, text: &mut String, list: &L) -> Result<(), NoMemory>
+fn push_list<L: Entries>(alloc: Global, text: &mut String, list: &mut L) -> Result<(), NoMemory>
     ensures text { OnOk result (string_bytes text.new
-        ≡ string_bytes text.old ++ compact_text (array (items_of (L.told list.now)))) }
-    ensures read { OnOk result (AllByRecursion IsRead (L.told list.now)) }
+        ≡ string_bytes text.old ++ compact_text (array (items_of (L.told list.old)))) }
+    ensures read { OnOk result (AllByRecursion IsRead (L.told list.old)) }
 {
     text.push_str("[")?;
     for place in 0..list.count() {
-        let json = list.entry_json(alloc, place)?;
+        let json = list.take_json(alloc)?;
         push_json(alloc, text, place > 0, json)?;
     }
     text.push_str("]")?;
     Ok(())
 }
 
-/// The text of an object with a list alone, written entry by entry.
-pub(crate) fn list_text<L: Entries>(alloc: Global, name: &str, list: &L) -> Result<String, NoMemory>
+/// The text of an object with a list alone, written entry by entry, each of which is dropped behind it.
+pub(crate) fn list_text<L: Entries>(
+    alloc: Global,
+    name: &str,
+    list: &mut L,
+) -> Result<String, NoMemory>
     ensures text { IfOk result (λ text.
-        string_bytes text ≡ compact_text (list_data name.now (L.told list.now))) }
-    ensures read { IfOk result (λ _. AllByRecursion IsRead (L.told list.now)) }
+        string_bytes text ≡ compact_text (list_data name.now (L.told list.old))) }
+    ensures read { IfOk result (λ _. AllByRecursion IsRead (L.told list.old)) }
 {
     let mut text = String::new(alloc);
     text.push_str("{")?;

@@ -64,7 +64,7 @@ pub(crate) fn records_at(alloc: Global, json: Option<&Json>) -> Result<RecordNam
 }
 
 /// The IDs of the subscriptions that a call lists as `subscriptions`: a list of objects with
-/// `subscriptionID`. Anything else is `BadKey`.
+/// `subscriptionID`. Anything else is `BadKey`. Its limit is that of `CallList::Subscriptions`.
 pub fn subscriptions_at(alloc: Global, json: Option<&Json>) -> Result<RecordNames, BadCall>
     ensures names { IsToldUnless BadCall.NoMemory result
         (subscriptions_at (option_map (λ v. view v.now) json.entry)) }

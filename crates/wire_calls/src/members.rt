@@ -1,9 +1,8 @@
-// Members of calls that are truth values, texts or whole numbers, and how long their lists may be.
-ghost use Rattle.std.specs.Prelude.{◌≡◌, ◌≤◌, OnOk, if◌then◌else◌, nat_lt, option_map, Ok, Err};
+// Members of calls that are truth values, texts or whole numbers.
+ghost use Rattle.std.specs.Prelude.{◌≡◌, IfOk, IfSome, IsUtf8, option_map};
 ghost use Rattle.serde_json.specs.View.{view};
 ghost use Rattle.ck_base.specs.Told.{IsToldUnless};
-ghost use Rattle.wire_calls.specs.declared.fault.BadCall.TheVariants.{TooMany as Exceeds};
-ghost use Rattle.wire_calls.specs.Members.{flag_at, text_at, count_at, limit_at};
+ghost use Rattle.wire_calls.specs.Members.{flag_at, text_at, count_at, limit_at, IsPageLimit};
 
 use crate::{BadCall, CallKey};
 use ck_base::Text;
@@ -26,8 +25,9 @@ pub(crate) fn flag_at(key: CallKey, default: bool, json: Option<&Json>) -> Resul
 
 /// The text that a member of a call is, where it is there. What is no text is `BadKey`.
 pub fn text_at(alloc: Global, key: CallKey, json: Option<&Json>) -> Result<Option<Text>, BadCall>
-    ensures { IsToldUnless BadCall.NoMemory result
+    ensures text { IsToldUnless BadCall.NoMemory result
         (text_at key (option_map (λ v. view v.now) json.entry)) }
+    ensures meant { IfOk result (λ text. IfSome text IsUtf8) }
 {
     let Some(json) = json else {
         return Ok(None);
@@ -55,7 +55,8 @@ pub fn count_at(key: CallKey, json: Option<&Json>) -> Result<Option<u64>, BadCal
 /// How many results a call asks for with `resultsLimit`, where it does: at least 1, and 200 where it
 /// asks for more. Anything else is `BadKey`.
 pub fn limit_at(json: Option<&Json>) -> Result<Option<u64>, BadCall>
-    ensures { result ≡ limit_at (option_map (λ v. view v.now) json.entry) }
+    ensures limit { result ≡ limit_at (option_map (λ v. view v.now) json.entry) }
+    ensures meant { IfOk result (λ limit. IfSome limit IsPageLimit) }
 {
     match count_at(CallKey::ResultsLimit, json)? {
         Some(0) => Err(BadCall::BadKey(CallKey::ResultsLimit)),
@@ -63,15 +64,4 @@ pub fn limit_at(json: Option<&Json>) -> Result<Option<u64>, BadCall>
         Some(count) => Ok(Some(count)),
         None => Ok(None),
     }
-}
-
-/// That a list has no more elements than a call may list of its kind. Else it is `TooMany`.
-pub fn check_count(most: usize, count: usize) -> Result<(), BadCall>
-    ensures limit { result ≡ (if nat_lt most count then Err (Exceeds count) else Ok tt) }
-    ensures within { OnOk result (count ≤ most) }
-{
-    if count > most {
-        return Err(BadCall::TooMany(count as u64));
-    }
-    Ok(())
 }

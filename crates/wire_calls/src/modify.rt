@@ -7,10 +7,10 @@ ghost use Rattle.zone_model.specs.OpForms.{IsMeantOp, AreMeantOps};
 ghost use Rattle.wire_calls.specs.Meant.{IsMeantModify};
 ghost use Rattle.wire_calls.specs.Calls.{ops_at, checked, modify_of};
 
-use crate::members::{check_count, flag_at};
+use crate::limits::check_count;
+use crate::members::flag_at;
 use crate::zones::zone_at;
-use crate::{BadCall, CallKey, ModifyCall};
-use ck_base::limits::LIST_ITEMS;
+use crate::{BadCall, CallKey, CallList, ModifyCall};
 use ck_base::{Database, UserName, ZoneKey};
 use field_values::member;
 use modify_ops::{BadOps, Ops, named_again, read_op_list};
@@ -42,7 +42,7 @@ fn checked(ops: Ops) -> Result<Ops, BadCall>
     ensures same { IfOk result (λ kept. kept ≡ ops) }
     ensures meant { AllByRecursion IsMeantOp ops → IfOk result AreMeantOps }
 {
-    check_count(LIST_ITEMS, ops.len())?;
+    check_count(CallList::Operations, ops.len())?;
     if let Some(name) = named_again(&ops) {
         return Err(BadCall::Twice(name.clone()?));
     }

@@ -4,16 +4,41 @@ ghost use Rattle.serde_json.specs.Data.{Data, object, no_members};
 ghost use Rattle.serde_json.specs.View.{view};
 ghost use Rattle.ck_base.specs.Told.{IsToldUnless};
 ghost use Rattle.wire_calls.specs.Meant.{IsMeantCall};
-ghost use Rattle.wire_calls.specs.Calls.{no_call, object_in, of_object, has_body, call_of, IsJson};
+ghost use Rattle.wire_calls.specs.Calls.{call_as, no_call, object_in, of_object, has_body, call_of, IsJson};
 ghost use Rattle.wire_calls.specs.Means.{Means};
 ghost use Rattle.wire_calls.specs.declared.call.Call.{Call};
 
+use crate::built::{CallKind, is_built_operation, kind_of};
 use crate::lookup::read_lookup;
 use crate::modify::read_modify;
 use crate::{BadCall, Call};
 use ck_base::{Operation, Route, UserName};
 use serde_json::{Map, Value as Json};
 use std::alloc::Global;
+
+// The call of a kind that an object is.
+fn read_as(
+    alloc: Global,
+    kind: CallKind,
+    route: &Route,
+    caller: &UserName,
+    json: &Json,
+) -> Result<Call, BadCall>
+    ensures call { IsToldUnless BadCall.NoMemory result
+        (call_as route.now.database caller.now kind (view json.now)) }
+    ensures meant { IfOk result IsMeantCall }
+{
+    match kind {
+        CallKind::ModifyRecords => {
+            let call = read_modify(alloc, route.database, caller, json)?;
+            Ok(Call::Modify(call))
+        }
+        CallKind::LookupRecords => {
+            let call = read_lookup(alloc, route.database, caller, json)?;
+            Ok(Call::Lookup(call))
+        }
+    }
+}
 
 fn read_object(
     alloc: Global,
@@ -25,17 +50,12 @@ fn read_object(
         (of_object route.now caller.now (object_in (Some (view json.now)))) }
     ensures meant { IfOk result IsMeantCall }
 {
-    let is_object = json.is_object();
-    match route.operation {
-        Operation::RecordsModify if is_object => {
-            let call = read_modify(alloc, route.database, caller, json)?;
-            Ok(Call::Modify(call))
-        }
-        Operation::RecordsLookup if is_object => {
-            let call = read_lookup(alloc, route.database, caller, json)?;
-            Ok(Call::Lookup(call))
-        }
-        operation => Err(no_call(operation)),
+    if !json.is_object() {
+        return Err(no_call(route.operation));
+    }
+    match kind_of(route.operation) {
+        Some(kind) => read_as(alloc, kind, route, caller, json),
+        None => Err(BadCall::NotBuilt),
     }
 }
 
@@ -43,10 +63,10 @@ fn read_object(
 fn no_call(operation: Operation) -> BadCall
     ensures { result ≡ no_call operation }
 {
-    match operation {
-        Operation::RecordsModify => BadCall::NotJson,
-        Operation::RecordsLookup => BadCall::NotJson,
-        _ => BadCall::NotBuilt,
+    if is_built_operation(operation) {
+        BadCall::NotJson
+    } else {
+        BadCall::NotBuilt
     }
 }
 

@@ -25,9 +25,9 @@ impl Entries for RecordsReply {
         self.entries.len()
     }
 
-    fn entry_json(&self, alloc: Global, place: usize) -> Result<Json, NoMemory> {
-        let entry = &self.entries.as_slice()[place];
-        record_entry_json(alloc, entry, &self.zone.owner, self.numbers_as_strings)
+    fn take_json(&mut self, alloc: Global) -> Result<Json, NoMemory> {
+        let entry = self.entries.remove(0);
+        record_entry_json(alloc, &entry, &self.zone.owner, self.numbers_as_strings)
     }
 }
 
@@ -40,17 +40,17 @@ fn refused_text(alloc: Global, error: ServerError) -> Result<String, NoMemory>
     Ok(json.to_string(alloc)?)
 }
 
-/// The body of a response with the reply: the text of `reply_json`, written entry by entry. With
-/// `reply_status` it is this reply to each call that the reply is one to. It fails only where memory
-/// runs out.
-pub fn reply_text(alloc: Global, reply: &Reply) -> Result<String, NoMemory>
-    ensures reply { (call : Call) → IsFor call reply.now → IfOk result (λ text.
-        IsReply call (reply_status reply.now) (string_bytes text) reply.now) }
-    ensures text { IfOk result (λ text. string_bytes text ≡ compact_text (reply_data reply.now)) }
+/// The body of a response with the reply: the text of `reply_json`, written entry by entry, each of
+/// which is dropped behind it. With `reply_status` it is this reply to each call that the reply is one
+/// to. It fails only where memory runs out.
+pub fn reply_text(alloc: Global, reply: Reply) -> Result<String, NoMemory>
+    ensures reply { (call : Call) → IsFor call reply → IfOk result (λ text.
+        IsReply call (reply_status reply) (string_bytes text) reply) }
+    ensures text { IfOk result (λ text. string_bytes text ≡ compact_text (reply_data reply)) }
 {
     match reply {
-        Reply::Modify(reply) => list_text(alloc, "records", reply),
-        Reply::Lookup(reply) => list_text(alloc, "records", reply),
-        Reply::Refused(error) => refused_text(alloc, *error),
+        Reply::Modify(mut reply) => list_text(alloc, "records", &mut reply),
+        Reply::Lookup(mut reply) => list_text(alloc, "records", &mut reply),
+        Reply::Refused(error) => refused_text(alloc, error),
     }
 }

@@ -1,73 +1,22 @@
 // Reading replies.
-ghost use Rattle.std.specs.Prelude.{◌≡◌, ◌≢◌, Ok, map, length, option_map};
+ghost use Rattle.std.specs.Prelude.{◌≡◌, ◌≢◌, Ok};
 ghost use Rattle.serde_json.specs.View.{view};
 ghost use Rattle.ck_base.specs.Told.{IsToldUnless};
 ghost use Rattle.wire_calls.specs.Asked.{zone_of, as_text_of};
-ghost use Rattle.wire_calls.specs.Entries.{Finds};
-ghost use Rattle.wire_calls.specs.RepliesTo.{IsReplyTo, IsReply, has_one_member, listing, AreAnswersOf, with_entries, IsFirstWrong, IsBadAt, IsBadReply, Tells};
+ghost use Rattle.wire_calls.specs.ReplyLists.{Tells};
+ghost use Rattle.wire_calls.specs.RepliesTo.{IsReplyTo, IsReply, with_entries, IsBadAt, IsBadReply};
 ghost use Rattle.wire_calls.specs.declared.reply.Reply.{Reply};
 
 use crate::asked::{Asked, asked_of};
-use crate::entry_read::{error_in, read_entry};
-use crate::{Call, RecordEntries, RecordsReply, Reply, ReplyFault};
-use ck_base::{Items, ZoneKey};
+use crate::entry_read::read_entry;
+use crate::list_read::{EntryReader, read_listed};
+use crate::thing_read::error_in;
+use crate::{Call, RecordEntries, RecordEntry, RecordsReply, Reply, ReplyFault};
+use ck_base::{NoMemory, ZoneKey};
 use error_replies::{error_json, status};
-use field_values::{member, same_json};
+use field_values::same_json;
 use serde_json::Value as Json;
 use std::alloc::Global;
-
-fn has_one_member(json: &Json) -> bool
-    ensures { result ≡ has_one_member (view json.now) }
-{
-    match json.as_object() {
-        Some(members) => members.len() == 1,
-        None => false,
-    }
-}
-
-// The list, where there is nothing more in the object.
-fn listed(json: &Json) -> Option<&[Json]>
-    ensures { Finds (λ ds. listing ds ≡ view json.now)
-        (option_map (λ items. map view items.now) result) }
-{
-    if !has_one_member(json) {
-        return None;
-    }
-    match member(json, "records").and_then(Json::as_array) {
-        Some(items) => Some(items.as_slice()),
-        None => None,
-    }
-}
-
-fn read_entries(
-    alloc: Global,
-    asked: &[Asked],
-    items: &[Json],
-    here: &ZoneKey,
-    numbers_as_strings: bool,
-) -> Result<RecordEntries, ReplyFault>
-    requires { length items.now ≡ length asked.now }
-    ensures { Tells
-        (AreAnswersOf here.now.owner numbers_as_strings asked.now (map view items.now))
-        (IsFirstWrong here.now.owner numbers_as_strings asked.now (map view items.now))
-        result }
-{
-    let mut entries = Vec::new(alloc);
-    for place in 0..items.len() {
-        let entry = read_entry(
-            alloc,
-            &asked[place],
-            &items[place],
-            here,
-            numbers_as_strings,
-        )?;
-        match entry {
-            Some(entry) => entries.push(entry)?,
-            None => return Err(ReplyFault::BadReply(place as u64 + 1)),
-        }
-    }
-    Ok(Items::from_vec(entries))
-}
 
 fn zone_of(call: &Call) -> &ZoneKey
     ensures { result.now ≡ zone_of call.now }
@@ -102,20 +51,33 @@ fn with_entries(call: &Call, entries: RecordEntries) -> Result<Reply, ReplyFault
     }
 }
 
+impl EntryReader<Asked, RecordEntry> for Call {
+    ghost use Rattle.wire_calls.specs.Entries.{IsAsked};
+    ghost use Rattle.wire_calls.specs.RepliesTo.{entry_data_of};
+
+    ghost is_asked = { λ _. IsAsked };
+
+    ghost entry_data = { entry_data_of };
+
+    fn read_entry(
+        &self,
+        alloc: Global,
+        asked: &Asked,
+        json: &Json,
+    ) -> Result<Option<RecordEntry>, NoMemory> {
+        read_entry(alloc, asked, json, zone_of(self), as_text_of(self))
+    }
+}
+
 fn read_list(alloc: Global, call: &Call, json: &Json) -> Result<Reply, ReplyFault>
     ensures { Tells (IsReplyTo call.now 200 (view json.now)) (IsBadAt call.now 200 (view json.now))
         result }
 {
-    let Some(items) = listed(json) else {
-        return Err(ReplyFault::BadReply(0));
-    };
     let asked = asked_of(alloc, call)?;
-    if items.len() != asked.len() {
-        return Err(ReplyFault::BadReply(0));
+    match read_listed(alloc, "records", call, asked.as_slice(), json) {
+        Ok(entries) => with_entries(call, entries),
+        Err(fault) => Err(fault),
     }
-    let here = zone_of(call);
-    let entries = read_entries(alloc, asked.as_slice(), items, here, as_text_of(call))?;
-    with_entries(call, entries)
 }
 
 fn read_refused(alloc: Global, call: &Call, number: u16, json: &Json) -> Result<Reply, ReplyFault>

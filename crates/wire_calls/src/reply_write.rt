@@ -4,6 +4,7 @@ ghost use Rattle.serde_json.specs.View.{view};
 ghost use Rattle.ck_records.specs.Writing.{record_data};
 ghost use Rattle.wire_calls.specs.Replies.{gone_data, failed_data, conflict_data, reply_entry_data, records_reply_data, reply_data, reply_status};
 
+use crate::thing::{Thing, failed_of, gone_of};
 use crate::{RecordEntry, RecordsReply, Reply};
 use ck_base::{NoMemory, RecordName, UserName};
 use ck_records::{Record, record_json};
@@ -11,24 +12,18 @@ use error_replies::{ServerError, code_of, error_json, reason_of, status};
 use serde_json::{Value as Json, json};
 use std::alloc::Global;
 
-pub(crate) fn gone_json(alloc: Global, name: &RecordName) -> Result<Json, NoMemory>
+fn gone_json(alloc: Global, name: &RecordName) -> Result<Json, NoMemory>
     ensures { IfOk result (λ json. view json ≡ gone_data name.now) }
 {
-    let name = name.as_str();
-    Ok(json!(in alloc; {"deleted": true, "recordName": name})?)
+    let name = Json::try_from_str(alloc, name.as_str())?;
+    gone_of(alloc, Thing::Record, name)
 }
 
-pub(crate) fn failed_json(
-    alloc: Global,
-    error: ServerError,
-    name: &RecordName,
-) -> Result<Json, NoMemory>
+fn failed_json(alloc: Global, error: ServerError, name: &RecordName) -> Result<Json, NoMemory>
     ensures { IfOk result (λ json. view json ≡ failed_data error name.now) }
 {
-    let code = code_of(error);
-    let name = name.as_str();
-    let reason = reason_of(error);
-    Ok(json!(in alloc; {"reason": reason, "recordName": name, "serverErrorCode": code})?)
+    let name = Json::try_from_str(alloc, name.as_str())?;
+    failed_of(alloc, Thing::Record, error, name)
 }
 
 fn with_server(alloc: Global, name: &RecordName, server: Json) -> Result<Json, NoMemory>

@@ -132,7 +132,8 @@ impl Element<ChangedZone> for UserName {
 }
 
 /// The zones that a call lists as `zones`: a list of zone IDs, or of objects with a `zoneID`, of
-/// which then nothing else is looked at. Anything else is `BadKey`.
+/// which then nothing else is looked at. Anything else is `BadKey`. Its limit is that of
+/// `CallList::Zones`.
 pub fn zones_at(alloc: Global, caller: &UserName, json: Option<&Json>) -> Result<ZoneKeys, BadCall>
     ensures keys { IsToldUnless BadCall.NoMemory result
         (zones_at caller.now (option_map (λ v. view v.now) json.entry)) }
@@ -142,7 +143,8 @@ pub fn zones_at(alloc: Global, caller: &UserName, json: Option<&Json>) -> Result
 }
 
 /// What a call does with zones by its `operations`: a list of objects with `operationType`, which is
-/// `create` or `delete`, and a `zone` with a `zoneID`. Anything else is `BadKey`.
+/// `create` or `delete`, and a `zone` with a `zoneID`. Anything else is `BadKey`. Its limit is that of
+/// `CallList::Operations`.
 pub fn zone_ops_at(
     alloc: Global,
     caller: &UserName,
@@ -157,6 +159,7 @@ pub fn zone_ops_at(
 
 /// The zones of whose changes a call asks by its `zones`: a list of objects with a `zoneID`, and
 /// perhaps a text `syncToken` and a `resultsLimit` as `limit_at` has it. Anything else is `BadKey`.
+/// Its limit is that of `CallList::ChangedZones`.
 pub fn changed_zones_at(
     alloc: Global,
     caller: &UserName,

@@ -41,7 +41,8 @@ fn body_told(place: &Place, operation: Operation, body: &[u8]) -> Result<String,
     }
 }
 
-fn bad_call_told(place: &Place, bad: BadCall) -> Result<String, Untold> {
+/// The fault of a body.
+pub(crate) fn bad_call_told(place: &Place, bad: BadCall) -> Result<String, Untold> {
     let alloc = place.alloc;
     match bad {
         BadCall::NotBuilt => Err(Untold::Because("NotBuilt")),
@@ -82,7 +83,8 @@ fn reply_to_told(place: &Place, call: &Call, status: u16, body: &str) -> Result<
     let alloc = place.alloc;
     match read_reply(alloc, call, status, body.as_bytes()) {
         Ok(reply) => {
-            let (status, text) = (reply_status(&reply), reply_text(alloc, &reply)?);
+            let status = reply_status(&reply);
+            let text = reply_text(alloc, reply)?;
             Ok(format!(in alloc; "{status} {text}")?)
         }
         Err(ReplyFault::BadReply(at)) => Ok(format!(in alloc; "BadReply {at}")?),

@@ -5,12 +5,14 @@
 mod calls;
 mod errors;
 mod fronts;
+mod lists;
 mod reads;
 
 use calls::call_told;
 use ck_base::NoMemory;
 use errors::error_told;
 use fronts::{answer_front, front_named};
+use lists::list_told;
 use std::alloc::Global;
 use value_rows::{Place, Untold, value_told};
 
@@ -38,7 +40,10 @@ fn answer_at_notes(alloc: Global, name: &str, text: &str) -> Result<Option<Strin
 }
 
 fn find_answer(place: &Place, name: &str, text: &str) -> Result<Option<String>, Untold> {
-    match call_told(place, name, text)? {
+    if let Some(told) = call_told(place, name, text)? {
+        return Ok(Some(told));
+    }
+    match list_told(place, name, text)? {
         Some(told) => Ok(Some(told)),
         None => value_told(place, name, text),
     }

@@ -1,7 +1,7 @@
 use Rattle.std.proofs.Common.{rules, ◌≡◌, Some}
 use Rattle.serde_json.specs.View.{view}
 use Rattle.ck_base.specs.Names.{IsName}
-use Rattle.wire_calls.specs.Entries.{entry_name, IsServer}
+use Rattle.wire_calls.specs.Found.{entry_name, IsServer}
 use Rattle.wire_calls.proofs.EntryLemmas.{some_is, just_conflict, other_conflict}
 use Rattle.wire_calls.proofs.entry_read.read_conflict.Goals as goal
 

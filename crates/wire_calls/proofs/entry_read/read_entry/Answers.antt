@@ -1,7 +1,7 @@
 use Rattle.std.proofs.Common.{rules, ◌≡◌, false}
 use Rattle.serde_json.specs.View.{view}
 use Rattle.wire_calls.specs.Asked.{answers}
-use Rattle.wire_calls.specs.Entries.{IsEntryOf}
+use Rattle.wire_calls.specs.Found.{IsEntryOf}
 use Rattle.wire_calls.proofs.EntryLemmas.{some_is, another}
 use Rattle.wire_calls.proofs.entry_read.read_entry.Goals as goal
 

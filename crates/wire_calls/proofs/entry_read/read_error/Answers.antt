@@ -1,6 +1,6 @@
 use Rattle.std.proofs.Common.{rules, ◌≡◌, None}
 use Rattle.serde_json.specs.View.{view}
-use Rattle.wire_calls.specs.Entries.{IsFailed, IsConflict}
+use Rattle.wire_calls.specs.Found.{IsFailed, IsConflict}
 use Rattle.wire_calls.proofs.EntryLemmas.{none_is, no_error}
 use Rattle.wire_calls.proofs.entry_read.read_error.Goals as goal
 

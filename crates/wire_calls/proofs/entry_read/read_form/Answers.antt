@@ -1,7 +1,7 @@
 use Rattle.std.proofs.Common.{rules, ◌≡◌, None}
 use Rattle.serde_json.specs.View.{view}
 use Rattle.ck_records.specs.Replied.{IsReplyOf}
-use Rattle.wire_calls.specs.Entries.{IsGone}
+use Rattle.wire_calls.specs.Found.{IsGone}
 use Rattle.wire_calls.proofs.EntryLemmas.{none_is, form_of_answer}
 use Rattle.wire_calls.proofs.entry_read.read_form.Goals as goal
 

@@ -1,8 +1,8 @@
 use Rattle.std.proofs.Common.{rules, ◌≡◌, nat_eq, Some, sym, ap, ◌∙◌}
 use Rattle.serde_json.specs.Find.{as_object}
 use Rattle.serde_json.specs.View.{view, members_view}
-use Rattle.wire_calls.proofs.ReplyLemmas.{one_member}
-use Rattle.wire_calls.proofs.reply_read.has_one_member.Goals as goal
+use Rattle.wire_calls.proofs.ReplyListLemmas.{one_member}
+use Rattle.wire_calls.proofs.list_read.has_one_member.Goals as goal
 
 pub returns-in-Some : goal.returns-in-Some
 returns-in-Some c =

@@ -1,0 +1,5 @@
+use Rattle.wire_calls.proofs.ZoneEntryLemmas.{zone_lists_exact}
+use Rattle.wire_calls.proofs.laws.zone_lists_are_exact.Goals as goal
+
+pub returns : goal.returns
+returns c = zone_lists_exact
