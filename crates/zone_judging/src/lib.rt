@@ -1,0 +1,33 @@
+//! Judging a request on a zone, over whatever tells what the caller sees of it. No program stands on
+//! it yet.
+#![tactic(auto)]
+
+mod ancestors;
+mod dangling;
+mod deletions;
+mod form;
+mod held;
+mod judging;
+mod kinds;
+mod looks;
+mod meets;
+mod names;
+mod permits;
+mod puts;
+mod references;
+mod request;
+mod sees;
+mod tags;
+mod taken;
+mod ties;
+mod wishes;
+mod working;
+mod working_references;
+mod writable;
+
+pub use deletions::fault_of_deletion;
+pub use judging::judge;
+pub use puts::fault_of_put;
+pub use request::{Grounds, NamedOp};
+pub use sees::Sees;
+pub use ties::Tie;
