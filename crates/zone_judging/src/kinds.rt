@@ -6,7 +6,8 @@ use ck_base::RecordName;
 use record_model::{Draft, ParentWish, is_share_type};
 use zone_model::OpKind;
 
-pub(crate) fn is_create(kind: OpKind) -> bool
+/// Whether it is a create.
+pub fn is_create(kind: OpKind) -> bool
     ensures { result ≡ is_create kind }
 {
     match kind {
@@ -34,7 +35,8 @@ pub(crate) fn is_forced(kind: OpKind) -> bool
     }
 }
 
-pub(crate) fn drops_fields(kind: OpKind) -> bool
+/// Whether the operation drops the fields that are not given.
+pub fn drops_fields(kind: OpKind) -> bool
     ensures { result ≡ drops_fields kind }
 {
     match kind {
@@ -48,14 +50,15 @@ pub(crate) fn drops_fields(kind: OpKind) -> bool
     }
 }
 
-pub(crate) fn makes_new(kind: OpKind) -> bool
+/// Whether the operation puts a record where there is none of its name.
+pub fn makes_new(kind: OpKind) -> bool
     ensures { result ≡ makes_new kind }
 {
     is_create(kind) || is_forced(kind)
 }
 
-// The parent of a new record.
-pub(crate) fn new_parent(draft: &Draft) -> Option<&RecordName>
+/// The parent of a new record.
+pub fn new_parent(draft: &Draft) -> Option<&RecordName>
     ensures { option_map (λ x. x.now) result ≡ new_parent draft.now }
 {
     match &draft.parent {
@@ -65,7 +68,8 @@ pub(crate) fn new_parent(draft: &Draft) -> Option<&RecordName>
     }
 }
 
-pub(crate) fn has_share_type(draft: &Draft) -> bool
+/// Whether the draft gives the type of shares.
+pub fn has_share_type(draft: &Draft) -> bool
     ensures { result ≡ has_share_type draft.now }
 {
     match &draft.rtype {
@@ -74,8 +78,8 @@ pub(crate) fn has_share_type(draft: &Draft) -> bool
     }
 }
 
-// The root that the draft gives.
-pub(crate) fn root_given(draft: &Draft) -> Option<&RecordName>
+/// The root that the draft gives.
+pub fn root_given(draft: &Draft) -> Option<&RecordName>
     ensures { option_map (λ x. x.now) result ≡ root_given draft.now }
 {
     match &draft.for_root {

@@ -27,6 +27,7 @@ mod writable;
 
 pub use deletions::fault_of_deletion;
 pub use judging::judge;
+pub use kinds::{drops_fields, has_share_type, is_create, makes_new, new_parent, root_given};
 pub use puts::fault_of_put;
 pub use request::{Grounds, NamedOp};
 pub use sees::Sees;
