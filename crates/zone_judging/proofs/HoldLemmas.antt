@@ -1,6 +1,6 @@
 -- What of the working view passes a test: what is tied as it is seen, or what a put leaves.
-use Rattle.std.proofs.Common.{◌≡◌, ℕ, List, [], ◌∷◌, Bool, true, false, cond, not, ◌&&◌, ◌||◌, refl, sym, ap, ◌∙◌, subst, Some, None, Option, inl, inr, ⊎_elim, map}
-use Rattle.std.specs.Prelude.{◌⊎◌, option_map, option_and_then, fold}
+use Rattle.std.proofs.Common.{◌≡◌, ℕ, List, [], ◌∷◌, Bool, true, false, cond, not, ◌&&◌, ◌||◌, refl, sym, ap, ◌∙◌, subst, Some, None, Option, ⊎_elim, map}
+use Rattle.std.specs.Prelude.{◌⊎◌, option_map, option_and_then}
 use Rattle.std.specs.Option.{option_map_or}
 use Rattle.std.specs.List.{list_any}
 use Rattle.std.specs.Cmp.{both_ways as iff}

@@ -32,3 +32,9 @@ pub mod StepLemmas
 pub mod HoldLemmas
 -- the faults of operations, one after another
 pub mod JudgeLemmas
+-- names to which those of records are added
+pub mod GrowLemmas
+-- the share of a root, by the name that the root gives
+pub mod ShareLemmas
+-- what spreads from deleted names is the least set of the cascade
+pub mod RemovalLemmas

@@ -32,7 +32,7 @@ found_step P true q r rows x one more e = subst P (same_some q r e) one
     same_some a b e = ap (λ (o : Option Record). option_map_or (λ t. t) o a) e
 found_step P false q r rows x one more e = more e
 
-found_each : (P : Record → Type 0) (rows : List Record) (x : List ℕ) (r : Record) → AllByRecursion P rows → record_at rows x ≡ Some r → P r
+pub found_each : (P : Record → Type 0) (rows : List Record) (x : List ℕ) (r : Record) → AllByRecursion P rows → record_at rows x ≡ Some r → P r
 found_each P [] x r all e = absurd (both_ways false refl (ap (λ (o : Option Record). option_map_or (λ _. true) o false) e))
 found_each P (q ∷ rows) x r all e = found_step P (same x q.name) q r rows x all.0 (found_each P rows x r all.1) e
 
@@ -43,7 +43,7 @@ pub record Passing (p : List ℕ → Bool) (names : List (List ℕ)) : Type 0 wh
   pub within : is_in names name ≡ true
   pub passes : p name ≡ true
 
-passing : (p : List ℕ → Bool) (names : List (List ℕ)) → list_any p names ≡ true → Passing p names
+pub passing : (p : List ℕ → Bool) (names : List (List ℕ)) → list_any p names ≡ true → Passing p names
 passing p [] e = absurd (both_ways false refl e)
 passing p (x ∷ names) e = ⊎_elim
     (λ (h : p x ≡ true). record { name = x; within = ap (λ b. b || is_in names x) (same-refl x); passes = h })

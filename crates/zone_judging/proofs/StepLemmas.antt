@@ -1,5 +1,5 @@
 -- Records that are met one after another, in ascending order of names.
-use Rattle.std.proofs.Common.{◌≡◌, ℕ, suc, ◌<◌, ◌+◌, List, [], ◌∷◌, ◌++◌, Bool, true, false, cond, ◌&&◌, ◌||◌, refl, sym, ap, ◌∙◌, subst, arith, Some, None, Option, length}
+use Rattle.std.proofs.Common.{◌≡◌, ℕ, ◌<◌, List, [], ◌∷◌, ◌++◌, Bool, true, false, cond, ◌&&◌, ◌||◌, refl, sym, ap, ◌∙◌, subst, arith, Some, None, Option, length}
 use Rattle.std.specs.Prelude.{filter, find}
 use Rattle.std.specs.Option.{option_map_or}
 use Rattle.std.specs.List.{list_any, list_all}
@@ -165,6 +165,10 @@ module _ (tie : Tie) (x : List ℕ) (h : Record → Bool) (rows : List Record) w
 
   pub step_on : (after : Option (List ℕ)) (r : Record) → IsAscending rows → next_tied rows tie x after ≡ Some r → h r ≡ false → any_behind after ≡ any_behind (Some r.name)
   step_on after r up e miss = at_next (is_tied tie x) h rows after r (next_is tie x rows after r up e) ∙ ap (λ b. b || any_behind (Some r.name)) miss
+
+pub at_tied : (tie : Tie) (x : List ℕ) (h : Record → Bool) (rows : List Record) (after : Option (List ℕ)) (r : Record) → IsAscending rows → next_tied rows tie x after ≡ Some r
+    → any_behind tie x h rows after ≡ (h r || any_behind tie x h rows (Some r.name))
+at_tied tie x h rows after r up e = at_next (is_tied tie x) h rows after r (next_is tie x rows after r up e)
 
 all_left : (rows : List Record) → behind None rows ≡ rows
 all_left [] = refl

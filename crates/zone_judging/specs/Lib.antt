@@ -12,3 +12,5 @@ pub mod Ties
 pub mod Holding
 -- the judgement of a request over the records that are told
 pub mod Judged
+-- what the removal of a name takes along
+pub mod Removal

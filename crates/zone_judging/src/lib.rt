@@ -1,8 +1,9 @@
-//! Judging a request on a zone, over whatever tells what the caller sees of it. No program stands on
-//! it yet.
+//! Judging a request on a zone, over whatever tells what the caller sees of it, and which names go with
+//! those that it deletes. No program stands on it yet.
 #![tactic(auto)]
 
 mod ancestors;
+mod cascade;
 mod dangling;
 mod deletions;
 mod form;
@@ -25,6 +26,7 @@ mod working;
 mod working_references;
 mod writable;
 
+pub use cascade::removed_names;
 pub use deletions::fault_of_deletion;
 pub use judging::judge;
 pub use kinds::{drops_fields, has_share_type, is_create, makes_new, new_parent, root_given};

@@ -1,4 +1,4 @@
--- fields and participants in the order of their names, and those around a name
+-- fields in the order of their names, and those around a name
 pub mod Orders
 -- participants in the order of their users, and their places
 pub mod Participants

@@ -1,6 +1,7 @@
 -- What a commit is told of a record that it writes.
-use Rattle.std.specs.Prelude.{◌≡◌, ℕ, Bool, List}
+use Rattle.std.specs.Prelude.{◌≡◌, ℕ, Bool, List, None, if◌then◌else◌}
 use Rattle.record_model.specs.declared.records.Stamp.{Stamp}
+use Rattle.record_model.specs.declared.records.Record.{Record}
 use Rattle.zone_model.specs.Records.{is_there}
 use Rattle.zone_model.specs.Effect.{Request, stamp}
 
@@ -9,3 +10,7 @@ pub record IsToldOf (q : Request) (name : List ℕ) (puts : ℕ) (there : Bool) 
   pub counted : q.puts name ≡ puts
   pub there_is : is_there q.rows name ≡ there
   pub stamp_is : stamp q ≡ s
+
+-- the record, which is marked no more where its share goes
+abbrev pub left_marked : Bool → Record → Record
+left_marked unmarked r = record r { share = if unmarked then None else r.share }

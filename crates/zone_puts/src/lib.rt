@@ -11,4 +11,4 @@ pub use fields::after_wishes;
 pub use participants::rewritten;
 pub use records::{changed_record, new_record, written_over};
 pub use shares::{body_after, body_without, first_share, new_body, share_after};
-pub use stamps::{stamped, write_as};
+pub use stamps::{final_record, stamped, write_as};

@@ -1,7 +1,7 @@
 // Tags and stamps of the records that a commit writes, and its writes.
-ghost use Rattle.std.specs.Prelude.{◌≡◌, ◌<◌, ◌-◌, ◌^◌, IfOk, if◌then◌else◌};
-ghost use Rattle.zone_model.specs.Effect.{Request, stamped, write_as};
-ghost use Rattle.zone_puts.specs.Stamping.{IsToldOf};
+ghost use Rattle.std.specs.Prelude.{◌≡◌, ◌<◌, ◌-◌, ◌^◌, List, ℕ, IfOk, if◌then◌else◌};
+ghost use Rattle.zone_model.specs.Effect.{Request, stamped, is_unmarked, final, write_as};
+ghost use Rattle.zone_puts.specs.Stamping.{IsToldOf, left_marked};
 
 use crate::records::copy_stamp;
 use ck_base::NoMemory;
@@ -36,6 +36,34 @@ pub fn stamped(row: Record, puts: u64, there: bool, stamp: &Stamp) -> Result<Rec
         modified,
         body: row.body,
     })
+}
+
+// The record, without the name of its share where that goes.
+fn left_marked(row: Record, unmarked: bool) -> Record
+    ensures { result ≡ left_marked unmarked row }
+{
+    if unmarked {
+        Record { share: None, ..row }
+    } else {
+        row
+    }
+}
+
+/// The record as a commit writes it: with its tag and its stamps as `stamped` has them, and without
+/// its share where that goes. It fails only where memory runs out.
+pub fn final_record(
+    row: Record,
+    puts: u64,
+    there: bool,
+    stamp: &Stamp,
+    unmarked: bool,
+) -> Result<Record, NoMemory>
+    requires { puts < 2 ^ 64 - 1 }
+    ensures { IfOk result (λ after. (q : Request) (gone : List (List ℕ)) → IsToldOf q row.name puts there stamp.now → is_unmarked q gone row ≡ unmarked → after ≡ final q gone row) }
+{
+    let stamped_row = stamped(row, puts, there, stamp)?;
+    let after = left_marked(stamped_row, unmarked);
+    Ok(after)
 }
 
 /// The write of a record, by whether it is removed and whether it is written, if there is one.
